@@ -26,3 +26,10 @@ IsPrefix-trans xs ys zs p q =
     let f = drop (length ys) zs in
     let e : zs ≡ xs ++ (d ++ f) = IsPrefix-rest ys zs q ∙ ap (λ y. y ++ f) (IsPrefix-rest xs ys p) ∙ append_assoc xs d f in
     subst (λ z. IsPrefix xs z) (sym e) (IsPrefix-front xs (d ++ f))
+
+-- a prefix stays one when more of what stands after it is added
+pub IsPrefix-longer : (xs ys : List ℕ) (n : ℕ) → IsPrefix xs ys → IsPrefix (xs ++ take n (drop (length xs) ys)) ys
+IsPrefix-longer xs ys n p =
+    let rest = drop (length xs) ys in
+    let e : ys ≡ (xs ++ take n rest) ++ drop n rest = IsPrefix-rest xs ys p ∙ ap (λ r. xs ++ r) (sym (take-append-drop n rest)) ∙ sym (append_assoc xs (take n rest) (drop n rest)) in
+    subst (λ z. IsPrefix (xs ++ take n rest) z) (sym e) (IsPrefix-front (xs ++ take n rest) (drop n rest))

@@ -1,5 +1,6 @@
 // A list of bytes with room that contracts see.
 ghost use Rattle.std.specs.Prelude.{◌≡◌, ◌+◌, ◌-◌, ◌≤◌, ◌++◌, [], length, drop, IfOk, OnOk, OnErr, IsOk};
+ghost use Rattle.cos_base.specs.Octets.{overwritten};
 
 use crate::NoMemory;
 use std::alloc::Global;
@@ -119,6 +120,15 @@ impl Octets {
     {
         self.items.drain(..count);
         self.room += count;
+    }
+
+    /// Replaces the bytes from a place on by as many others. It takes no memory.
+    pub fn overwrite(&mut self, at: usize, bytes: &[u8])
+        requires { at + length bytes.now ≤ length self.old.bytes }
+        ensures bytes { self.new.bytes ≡ overwritten self.old.bytes at bytes.now }
+        ensures spare { self.new.spare ≡ self.old.spare }
+    {
+        self.items[at..at + bytes.len()].copy_from_slice(bytes);
     }
 
     /// A list of the same bytes, without room.
