@@ -1,0 +1,2 @@
+pub mod RelayStar
+pub mod RelayPackets
