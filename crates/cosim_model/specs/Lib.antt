@@ -1,0 +1,10 @@
+pub mod Values
+pub mod Parts
+pub mod Order
+pub mod Packets
+pub mod Sessions
+pub mod DeviceTurn
+pub mod MachineTurn
+pub mod Direct
+pub mod World
+pub mod Traffic
