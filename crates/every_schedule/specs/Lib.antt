@@ -1,0 +1,4 @@
+pub mod Wires
+pub mod Mirror
+pub mod Schedules
+pub mod Counts
