@@ -1,0 +1,6 @@
+use Rattle.rp_header.specs.Numbers.{be}
+use Rattle.rp_control.proofs.interrupt.Interrupt.write.Goals as goal
+
+pub returns : goal.returns
+unfolding be
+returns c = simp (c.write_u8.ensures, c.write_u32.ensures, c.write_u64-2.ensures, c.write_u64.ensures)
