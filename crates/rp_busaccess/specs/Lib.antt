@@ -1,0 +1,5 @@
+pub mod Buses
+pub mod Refusals
+pub mod Writing
+pub mod BusLaws
+pub mod Bits
