@@ -1,0 +1,14 @@
+pub mod Values
+pub mod Spelling
+pub mod Refusals
+pub mod Streams
+pub mod BodyLaws
+pub mod ReadingLaws
+pub mod WritingLaws
+pub mod StreamLaws
+pub mod Reading
+pub mod FaultLaws
+pub mod PacketLaws
+pub mod Writing
+pub mod WrittenLaws
+pub mod CodecLaws

@@ -1,0 +1,20 @@
+//! Packets: read exactly as the grammar says, written in their one canonical spelling.
+#![tactic(auto)]
+
+mod fault;
+mod laws;
+mod packet;
+mod reading;
+mod rows;
+#[cfg(test)]
+mod tests;
+mod writing;
+
+pub use fault::{Cause, PacketFault, ReadFault};
+pub use laws::{codec_laws, one_reading, one_writing};
+pub use packet::{Packet, Tag};
+pub use reading::packet_len;
+pub use rows::{FAULTS, FaultRows};
+pub use rp_busaccess::{BusAccess, WriteFault};
+pub use rp_control::{Cfg, Hello, Interrupt, Sync};
+pub use rp_header::Command;
