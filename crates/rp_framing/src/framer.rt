@@ -1,0 +1,186 @@
+ghost use Rattle.std.specs.Prelude.{◌≡◌, ◌+◌, ◌-◌, ◌*◌, ◌≤◌, [], None, Some, false, length, drop, min, OnOk, OnErr, IfErr, IfOk, IsOk};
+
+use crate::fault::{FrameFault, Truncated};
+use crate::front::{front_of, is_whole};
+use cos_base::{NoMemory, Octets};
+use rp_packet::{Packet, PacketFault, ReadFault};
+use std::alloc::Global;
+use std::marker::Model;
+
+/// How many bytes a framer keeps room for: the longest packet, and a piece of 4,096.
+const ROOM: usize = 69652;
+
+/// Makes packets of a stream of bytes. What it gives doesn't depend on how the stream was cut.
+///
+/// Bytes of taken packets stay at the front of its list until room is needed, so that taking a packet costs nothing.
+#[derive(Drop)]
+pub struct Framer {
+    alloc: Global,
+    bytes: Octets,
+    /// How many bytes at the front of the list belong to taken packets.
+    begin: usize,
+    taken: u64,
+    kept: Option<PacketFault>,
+}
+
+impl Model for Framer {
+    ghost use Rattle.std.specs.Prelude.{◌+◌, ◌≤◌, length, drop};
+    ghost use Rattle.rp_framing.specs.Framing.{Frames};
+
+    ghost Value = { Frames };
+
+    ghost view = { λ f. record { held = drop f.begin f.bytes.bytes; taken = f.taken; room = f.bytes.spare + f.begin; kept = f.kept } };
+
+    ghost invariant = { λ f. f.begin ≤ length f.bytes.bytes };
+}
+
+impl Framer {
+    ghost use Rattle.rp_framing.specs.Framing.{Frames, Feeds, Nexts, is_ready, counted};
+
+    /// It takes no memory.
+    pub fn make(alloc: Global) -> Framer
+        ensures { result ≡ record { held = []; taken = 0; room = 0; kept = None } }
+    {
+        Framer {
+            alloc,
+            bytes: Octets::make(alloc),
+            begin: 0,
+            taken: 0,
+            kept: None,
+        }
+    }
+
+    /// Appends bytes of the stream. After a fault of `next` it drops them.
+    pub fn feed(&mut self, bytes: &[u8]) -> Result<(), NoMemory>
+        ensures ok { OnOk result (Feeds bytes.now self.old self.new) }
+        ensures err { OnErr result (self.new ≡ self.old) }
+    {
+        if self.kept.is_some() {
+            return Ok(());
+        }
+        self.make_way(bytes.len());
+        self.bytes.push_all(bytes)
+    }
+
+    /// Appends bytes of the stream in the room that there is. After a fault of `next` it drops them. It takes no memory.
+    pub fn feed_spare(&mut self, bytes: &[u8])
+        requires { length bytes.now ≤ self.old.room }
+        ensures { Feeds bytes.now self.old self.new }
+    {
+        if self.kept.is_some() {
+            return;
+        }
+        self.begin = make_room(&mut self.bytes, self.begin, bytes.len());
+        self.bytes.push_spare(bytes);
+    }
+
+    /// Makes room for at least the longest packet and a piece of 4,096 bytes: held bytes and room are together at least 69,652.
+    pub fn reserve(&mut self) -> Result<(), NoMemory>
+        ensures ok { OnOk result (69652 ≤ length self.new.held + self.new.room) }
+        ensures held { self.new.held ≡ self.old.held }
+        ensures taken { self.new.taken ≡ self.old.taken }
+        ensures kept { self.new.kept ≡ self.old.kept }
+        ensures grows { self.old.room ≤ self.new.room }
+        ensures err { OnErr result (self.new ≡ self.old) }
+    {
+        self.close_up();
+        let held = self.bytes.len();
+        if held < ROOM {
+            self.bytes.reserve(ROOM - held)?;
+        }
+        Ok(())
+    }
+
+    /// How many bytes `feed_spare` takes.
+    pub fn room(&self) -> usize
+        ensures { result ≡ min self.now.room usize.MAX }
+    {
+        self.bytes.spare().saturating_add(self.begin)
+    }
+
+    /// The next packet, if it is whole. A fault is answered again from then on; want of memory leaves the packet held.
+    pub fn next(&mut self) -> Result<Option<Packet>, FrameFault>
+        ensures { Nexts self.old self.new result }
+    {
+        if let Some(fault) = self.kept {
+            return Err(FrameFault::Malformed(fault));
+        }
+        let (_, held) = self.bytes.as_slice().split_at(self.begin);
+        match front_of(self.alloc, held) {
+            Ok(None) => Ok(None),
+            Ok(Some((packet, size))) => {
+                self.begin += size;
+                self.taken = self.taken.saturating_add(size as u64);
+                Ok(Some(packet))
+            }
+            Err(ReadFault::Malformed(fault)) => {
+                let fault = PacketFault {
+                    start: self.taken,
+                    place: fault.place,
+                    cause: fault.cause,
+                };
+                self.kept = Some(fault);
+                Err(FrameFault::Malformed(fault))
+            }
+            Err(ReadFault::NoMemory) => Err(FrameFault::NoMemory),
+        }
+    }
+
+    /// Whether `next` has something to answer: a packet or a fault. It takes no memory.
+    pub fn ready(&self) -> bool
+        ensures { result ≡ is_ready self.now }
+    {
+        let (_, held) = self.bytes.as_slice().split_at(self.begin);
+        self.kept.is_some() || is_whole(held)
+    }
+
+    /// What the end of the stream means: bytes of an unfinished packet are a fault. It takes no memory.
+    pub fn at_end(&self) -> Result<(), Truncated>
+        requires { is_ready self.now ≡ false }
+        ensures ok { OnOk result (self.now.held ≡ []) }
+        ensures truncated { IfErr result (λ t. (t.start ≡ self.now.taken) × (t.held ≡ length self.now.held) × (1 ≤ t.held)) }
+    {
+        let held = self.bytes.len() - self.begin;
+        if held == 0 {
+            return Ok(());
+        }
+        Err(Truncated {
+            start: self.taken,
+            held: held as u64,
+        })
+    }
+
+    /// Closes up the place of taken packets.
+    fn close_up(&mut self)
+        ensures same { self.new ≡ self.old }
+    {
+        self.bytes.drop_front(self.begin);
+        self.begin = 0;
+    }
+
+    /// Closes up the place of taken packets where more room is needed, and no more bytes are moved than were taken.
+    fn make_way(&mut self, more: usize)
+        ensures { self.new ≡ self.old }
+    {
+        let held = self.bytes.len() - self.begin;
+        if more > self.bytes.spare() && held <= self.begin {
+            self.close_up();
+        }
+    }
+}
+
+/// Closes up the place of the first bytes where there is no room for more otherwise. It gives how many are left of them.
+fn make_room(bytes: &mut Octets, begin: usize, more: usize) -> usize
+    requires within { begin ≤ length bytes.old.bytes }
+    requires room { more ≤ bytes.old.spare + begin }
+    ensures held { drop result bytes.new.bytes ≡ drop begin bytes.old.bytes }
+    ensures within { result ≤ length bytes.new.bytes }
+    ensures same { bytes.new.spare + result ≡ bytes.old.spare + begin }
+    ensures fits { more ≤ bytes.new.spare }
+{
+    if more <= bytes.spare() {
+        return begin;
+    }
+    bytes.drop_front(begin);
+    0
+}
