@@ -1,0 +1,10 @@
+pub mod Ends
+pub mod Going
+pub mod Plain
+pub mod Reading
+pub mod Sending
+pub mod Serving
+pub mod Spelling
+pub mod Talk
+pub mod TalkLaws
+pub mod Turns
