@@ -1,0 +1,4 @@
+pub mod Completing
+pub mod Faulty
+pub mod Handing
+pub mod Putting

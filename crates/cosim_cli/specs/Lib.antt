@@ -1,0 +1,6 @@
+pub mod Causes
+pub mod Lines
+pub mod Names
+pub mod Statuses
+pub mod Talks
+pub mod Words

@@ -1,0 +1,38 @@
+-- The commands of the program, as lists of words, and at which word other words stop being one.
+use Rattle.std.specs.Prelude.{ℕ, ◌≡◌, ◌+◌, ◌≤◌, ◌⊎◌, List, [], ◌∷◌, ◌++◌, length, take, codes}
+use Rattle.cosim_cli.specs.declared.status.Status.{Status}
+use Rattle.cosim_cli.specs.declared.status.Status.TheVariants as status
+
+-- serve a null device at a socket
+abbrev pub IsDevice : List ℕ → List (List ℕ) → Type 0
+IsDevice socket words = words ≡ codes "device" ∷ socket ∷ codes "null" ∷ []
+
+abbrev pub IsCommand : List (List ℕ) → Type 0
+IsCommand words = (socket : List ℕ) × IsDevice socket words
+
+-- some command begins with these words
+abbrev pub Begins : List (List ℕ) → Type 0
+Begins words = (more : List (List ℕ)) × IsCommand (words ++ more)
+
+-- The words are no command, and this is the first index such that no command begins with the words up to and with it, or their number where a command begins with them all.
+pub record IsFaulty (words : List (List ℕ)) (index : ℕ) : Type 0 where
+  pub no_command : IsCommand words → ⊥
+  pub before : Begins (take index words)
+  pub at : (Begins (take (index + 1) words) → ⊥) ⊎ (index ≡ length words)
+  pub within : index ≤ length words
+
+-- Usage comes exactly where the words are no command, and shows where they stop being one.
+abbrev pub Uses : List (List ℕ) → Status → Type 0
+Uses words (status.Usage index) = IsFaulty words index
+Uses words status.Done = IsCommand words
+Uses words (status.Peer port f) = IsCommand words
+Uses words (status.Outside o count) = IsCommand words
+Uses words status.NoMemory = IsCommand words
+
+-- Words before one that isn't UTF-8 stop being a command at this index, or at that word.
+abbrev pub StopsAt : List (List ℕ) → Status → Type 0
+StopsAt words (status.Usage index) = Begins (take index words) × ((Begins (take (index + 1) words) → ⊥) ⊎ (index ≡ length words))
+StopsAt words status.Done = ⊥
+StopsAt words (status.Peer port f) = ⊥
+StopsAt words (status.Outside o count) = ⊥
+StopsAt words status.NoMemory = ⊥
