@@ -1,0 +1,11 @@
+pub mod Texts
+pub mod Numbers
+pub mod Programs
+pub mod Places
+pub mod Views
+pub mod Labelled
+pub mod Csrs
+pub mod Readings
+pub mod Forms
+pub mod Statements
+pub mod Listings
