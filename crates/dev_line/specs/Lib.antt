@@ -1,0 +1,4 @@
+pub mod Chunks
+pub mod Wires
+pub mod Requests
+pub mod WireLaws
