@@ -1,0 +1,10 @@
+//! A timer: an interrupt level that is high from a tick on.
+#![tactic(auto)]
+
+mod register;
+#[cfg(test)]
+mod tests;
+mod timer;
+
+pub use register::Register;
+pub use timer::Timer;
