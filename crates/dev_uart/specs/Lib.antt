@@ -1,0 +1,2 @@
+pub mod Uarts
+pub mod UartLaws

@@ -1,0 +1,10 @@
+//! A UART: bytes that arrive one after another, and bytes that are sent.
+#![tactic(auto)]
+
+mod register;
+#[cfg(test)]
+mod tests;
+mod uart;
+
+pub use register::Register;
+pub use uart::Uart;
