@@ -1,0 +1,12 @@
+//! A DMA: it copies bytes from one place of the machine's memory to another.
+#![tactic(auto)]
+
+mod dma;
+mod engine;
+mod register;
+#[cfg(test)]
+mod tests;
+
+pub use dma::Dma;
+pub use engine::Engine;
+pub use register::Register;
