@@ -1,0 +1,12 @@
+//! A disk: it moves sectors to the machine's memory and back.
+#![tactic(auto)]
+
+mod disk;
+mod engine;
+mod register;
+#[cfg(test)]
+mod tests;
+
+pub use disk::Disk;
+pub use engine::Engine;
+pub use register::Register;
