@@ -1,0 +1,6 @@
+mod Entries
+mod Texts
+mod Members
+mod PortReads
+mod Windows
+mod Entering

@@ -1,0 +1,204 @@
+// The rules that speak of several ports at once.
+ghost use Rattle.std.specs.Prelude.{◌≡◌, ◌⊎◌, MatchOption, codes, ℕ, ◌+◌, ◌<◌, ◌≤◌, List, [], ◌∷◌, ◌++◌, Option, Some, None, IfOk, length, drop, slice_index_or};
+ghost use Rattle.cos_config.specs.Rules.{overlap_found, shared_found, passes_end, share_an_address, parts, windows, lines_found, line_found, has_line, needs_found, port_needs, parts_found};
+ghost use Rattle.cos_config.specs.First.{Refuses};
+
+use crate::{Config, ConfigFault, Name, PortConfig, PortKind, Sockets, TableName};
+use cos_base::NoMemory;
+use std::alloc::Global;
+
+/// A part of the address space, which has 2^32 addresses.
+#[derive(Clone, Copy)]
+pub struct Part {
+    pub base: u32,
+    pub size: u32,
+}
+
+fn passes_the_end(part: Part) -> bool
+    ensures { result ≡ passes_end part }
+{
+    part.base as u64 + part.size as u64 > 1 << 32
+}
+
+fn shares_an_address(one: Part, other: Part) -> bool
+    ensures { result ≡ share_an_address one other }
+{
+    (one.base as u64) < other.base as u64 + other.size as u64
+        && (other.base as u64) < one.base as u64 + one.size as u64
+}
+
+/// RAM, the system block and the windows, by part number.
+fn parts_of(alloc: Global, config: &Config) -> Result<Vec<Part>, NoMemory>
+    ensures { IfOk result (λ v. v.items ≡ parts config.now) }
+{
+    let mut all = Vec::new(alloc);
+    let ram = Part {
+        base: 0x8000_0000,
+        size: config.ram,
+    };
+    let system = Part {
+        base: 0x0010_0000,
+        size: 4096,
+    };
+    push(&mut all, ram)?;
+    push(&mut all, system)?;
+    for port in config.ports.as_slice() {
+        let window = Part {
+            base: port.base,
+            size: port.size,
+        };
+        push(&mut all, window)?;
+    }
+    Ok(all)
+}
+
+fn push(all: &mut Vec<Part>, part: Part) -> Result<(), NoMemory>
+    ensures { IfOk result (λ _. all.new.items ≡ all.old.items ++ part ∷ []) }
+{
+    match all.push(part) {
+        Ok(()) => Ok(()),
+        Err(_) => Err(NoMemory),
+    }
+}
+
+/// The first part behind part `a` that shares an address with it.
+fn shared(all: &[Part], a: usize) -> Option<ConfigFault>
+    requires here { a < length all.now }
+    requires few { length all.now ≤ 18 }
+    ensures { result ≡ shared_found a (slice_index_or all.now a (record { base = 0; size = 0 })) (a + 1) (drop (a + 1) all.now) }
+{
+    for b in a + 1..all.len() {
+        if shares_an_address(all[a], all[b]) {
+            return Some(ConfigFault::Overlap {
+                a: a as u32,
+                b: b as u32,
+            });
+        }
+    }
+    None
+}
+
+/// The first pair of parts that share an address, or a part that passes the end.
+fn overlap(all: &[Part]) -> Option<ConfigFault>
+    requires few { length all.now ≤ 18 }
+    ensures { result ≡ overlap_found 0 all.now }
+{
+    for a in 0..all.len() {
+        if passes_the_end(all[a]) {
+            return Some(ConfigFault::Overlap {
+                a: a as u32,
+                b: a as u32,
+            });
+        }
+        if let Some(fault) = shared(all, a) {
+            return Some(fault);
+        }
+    }
+    None
+}
+
+fn port_has_line(port: &PortConfig, line: u32) -> bool
+    ensures { result ≡ has_line port.now line }
+{
+    port.kind != PortKind::Null && port.line == line
+}
+
+/// The first port behind port `a` that has its line.
+fn same_line(ports: &[PortConfig], a: usize, line: u32) -> Option<ConfigFault>
+    requires here { a < length ports.now }
+    requires few { length ports.now ≤ 16 }
+    ensures { result ≡ line_found a line (a + 1) (drop (a + 1) ports.now) }
+{
+    for b in a + 1..ports.len() {
+        if port_has_line(&ports[b], line) {
+            return Some(ConfigFault::LineTwice {
+                a: a as u32,
+                b: b as u32,
+            });
+        }
+    }
+    None
+}
+
+/// The first two ports that have one line.
+fn line_twice(ports: &[PortConfig]) -> Option<ConfigFault>
+    requires few { length ports.now ≤ 16 }
+    ensures { result ≡ lines_found 0 ports.now }
+{
+    for a in 0..ports.len() {
+        let port = &ports[a];
+        if port_has_line(port, port.line) {
+            if let Some(fault) = same_line(ports, a, port.line) {
+                return Some(fault);
+            }
+        }
+    }
+    None
+}
+
+fn port_lacks(number: u32, port: &PortConfig) -> Option<ConfigFault>
+    ensures { result ≡ port_needs number port.now.kind port.now.caps.base port.now.caps.enables }
+{
+    match port.kind {
+        PortKind::Dma if !port.caps.base => Some(ConfigFault::Needs {
+            port: number,
+            cap: 1,
+        }),
+        PortKind::Dma if !port.caps.enables => Some(ConfigFault::Needs {
+            port: number,
+            cap: 2,
+        }),
+        _ => None,
+    }
+}
+
+/// The first port that lacks a capability that its device needs.
+fn lacking(ports: &[PortConfig]) -> Option<ConfigFault>
+    requires few { length ports.now ≤ 16 }
+    ensures { result ≡ needs_found 0 ports.now }
+{
+    for (number, port) in ports.iter().enumerate() {
+        if let Some(fault) = port_lacks(number as u32, port) {
+            return Some(fault);
+        }
+    }
+    None
+}
+
+/// The first of the rules on several ports that a configuration breaks.
+pub fn broken(alloc: Global, config: &Config, sockets: Sockets) -> Option<ConfigFault>
+    requires few { length config.now.ports ≤ 16 }
+    ensures { MatchOption result (parts_found sockets config.now ≡ None) (Refuses (parts_found sockets config.now)) }
+{
+    let parts = match parts_of(alloc, config) {
+        Ok(parts) => parts,
+        Err(NoMemory) => return Some(ConfigFault::NoMemory),
+    };
+    if let Some(fault) = overlap(&parts) {
+        return Some(fault);
+    }
+    let ports = config.ports.as_slice();
+    if let Some(fault) = line_twice(ports) {
+        return Some(fault);
+    }
+    if let Some(fault) = lacking(ports) {
+        return Some(fault);
+    }
+    match sockets {
+        Sockets::Port { port } if port as usize >= ports.len() => Some(no_port(alloc, port)),
+        _ => None,
+    }
+}
+
+/// The fault of a port that isn't there.
+fn no_port(alloc: Global, port: u32) -> ConfigFault
+    ensures { (result ≡ ConfigFault.NoMemory) ⊎ (result ≡ ConfigFault.Missing (TableName.Port port) (codes "kind")) }
+{
+    match Name::copy_of(alloc, "kind") {
+        Ok(key) => ConfigFault::Missing {
+            table: TableName::Port(port),
+            key,
+        },
+        Err(NoMemory) => ConfigFault::NoMemory,
+    }
+}
