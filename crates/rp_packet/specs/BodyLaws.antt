@@ -1,21 +1,19 @@
 -- A body that no row refuses means what is read in it, and nothing else.
-use Rattle.std.proofs.Common.{◌≡◌, ℕ, ◌+◌, ◌<◌, ◌≤◌, Bool, true, false, List, length, refl, sym, ap, ◌∙◌, arith, subst}
-use Rattle.std.specs.Prelude.{not, ◌&&◌, nat_lt, if◌then◌else◌, Option, Some, None}
+use Rattle.std.proofs.Common.{◌≡◌, ℕ, ◌≤◌, Bool, true, false, List, length, refl, ap, ◌∙◌, arith}
+use Rattle.std.specs.Prelude.{not, ◌&&◌, nat_lt, if◌then◌else◌, Some, None}
 use Rattle.std.proofs.lemmas.Bool.Decides.{nat_tests}
 use Rattle.cosim_model.specs.Values.{bit}
 use Rattle.cosim_model.specs.declared.session.Command.{Command}
 use Rattle.cosim_model.specs.declared.session.Command.TheVariants as command
-use Rattle.cosim_model.specs.Packets.{Body, BusFields, cmd_of, carried}
+use Rattle.cosim_model.specs.Packets.{Body, cmd_of, carried}
 use Rattle.cosim_model.specs.Packets.Body.{Nop, Hello, Cfg, Read, Write, Interrupt, Sync}
 use Rattle.rp_header.specs.Numbers.{field, AreBytes}
 use Rattle.rp_header.specs.Headers.{command_of, command_number}
-use Rattle.rp_control.specs.declared.fault.BodyFault.{BodyFault}
 use Rattle.rp_control.specs.declared.fault.BodyFault.TheVariants as body_fault
-use Rattle.rp_control.specs.Refusals.{short_of, refused_hello, hello_refusal, caps_wanted, caps_within, caps_in}
+use Rattle.rp_control.specs.Refusals.{short_of, hello_refusal, caps_wanted, caps_within, caps_in}
 use Rattle.rp_control.specs.ControlLaws.{IsHello-there, IsHello-read, IsCfg-there, IsCfg-read, IsInterrupt-there, IsInterrupt-read, IsSync-there, IsSync-read}
-use Rattle.rp_busaccess.specs.declared.fault.BusFault.{BusFault}
 use Rattle.rp_busaccess.specs.declared.fault.BusFault.TheVariants as bus_fault
-use Rattle.rp_busaccess.specs.Refusals.{least, stands, apart, count_in, bus_refusal, fields_in}
+use Rattle.rp_busaccess.specs.Refusals.{least, stands, apart, count_in, bus_refusal}
 use Rattle.rp_busaccess.specs.BusLaws.{IsBus-there, IsBus-read}
 use Rattle.rp_packet.specs.Spelling.{IsBodyOf}
 use Rattle.rp_packet.specs.Refusals.{control_cause, bus_cause, body_cause, body_in}

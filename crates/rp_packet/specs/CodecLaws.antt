@@ -1,12 +1,10 @@
 -- The codec's laws: what is written is read back, whatever follows, and what is whole is decided by its own bytes.
-use Rattle.std.proofs.Common.{◌≡◌, ◌⊎◌, inl, inr, ℕ, suc, ◌+◌, ◌*◌, ◌^◌, ◌<◌, ◌≤◌, Bool, true, false, List, [], ◌∷◌, ◌++◌, length, slice_index, refl, sym, ap, ◌∙◌, arith, subst}
+use Rattle.std.proofs.Common.{◌≡◌, inl, inr, ℕ, suc, ◌+◌, ◌*◌, ◌^◌, ◌<◌, ◌≤◌, Bool, true, false, List, [], ◌∷◌, ◌++◌, length, slice_index, refl, sym, ap, ◌∙◌, arith, subst}
 use Rattle.std.specs.Prelude.{min, not, ◌&&◌, nat_lt, nat_eq, if◌then◌else◌, Option, Some, None, All}
 use Rattle.std.proofs.lemmas.List.{append-nil, length-append, get_or_past}
 use Rattle.std.proofs.lemmas.Bool.Decides.{nat_tests, leb_tells}
-use Rattle.cosim_model.specs.Values.{bit}
-use Rattle.cosim_model.specs.Packets.{Packet, Body, BusFields, Decoded, Codec, IsCodec, IsWritable, IsBody, FitsLayout, body_size, bus_size as model_bus_size, cmd_of, carries, carried, is_extended, command_of as command_of_body}
+use Rattle.cosim_model.specs.Packets.{Packet, Body, BusFields, Decoded, IsCodec, IsWritable, IsBody, FitsLayout, body_size, bus_size as model_bus_size, cmd_of, carries, is_extended}
 use Rattle.cosim_model.specs.Packets.Body.{Nop, Hello, Cfg, Read, Write, Interrupt, Sync}
-use Rattle.cosim_model.specs.Packets.Decoded.{Valid, Malformed}
 use Rattle.rp_header.specs.Numbers.{be}
 use Rattle.rp_header.specs.NumberLaws.{length-be}
 use Rattle.rp_control.specs.Controls.{AreWords}

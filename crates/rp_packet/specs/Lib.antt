@@ -6,6 +6,7 @@ pub mod BodyLaws
 pub mod ReadingLaws
 pub mod WritingLaws
 pub mod StreamLaws
+pub mod Walks
 pub mod Reading
 pub mod FaultLaws
 pub mod PacketLaws

@@ -1,5 +1,5 @@
 -- What `Packet::read` answers is what its bytes spell, or the first row that refuses them.
-use Rattle.std.proofs.Common.{◌≡◌, ◌⊎◌, inl, inr, ℕ, ◌+◌, ◌<◌, ◌≤◌, Bool, List, [], ◌++◌, length, take, drop, refl, sym, ap, ◌∙◌, arith, subst}
+use Rattle.std.proofs.Common.{◌≡◌, ◌⊎◌, inl, inr, ℕ, ◌+◌, ◌<◌, ◌≤◌, List, [], ◌++◌, length, take, drop, refl, sym, ap, ◌∙◌, arith, subst}
 use Rattle.std.specs.Prelude.{Option, Some, None, Result, Ok, Err, IfOk, IfErr, MatchResult}
 use Rattle.std.proofs.Math.Seq.{take-length}
 use Rattle.std.proofs.lemmas.List.{append-nil, length-drop, take-append-drop, drop-take}
@@ -17,7 +17,7 @@ use Rattle.rp_packet.specs.declared.packet.Packet.{Packet as HeldPacket}
 use Rattle.rp_packet.specs.Values.{value_of}
 use Rattle.rp_packet.specs.Spelling.{IsBodyOf, Spells}
 use Rattle.rp_packet.specs.Refusals.{header_cause, body_cause, place_of, cmd_at, len_at, id_at, flags_at, dev_at, body_at, early_refusal, late_refusal}
-use Rattle.rp_packet.specs.Streams.{Bad, Refuses}
+use Rattle.rp_packet.specs.Streams.{Bad}
 use Rattle.rp_packet.specs.Reading.{IsOnePacket, fault_at, IsReadFault, IsBodyFault, IsEarlyFault}
 use Rattle.rp_packet.specs.ReadingLaws.{Begins, Begins-Spells, one-value, header-lawful}
 

@@ -1,22 +1,18 @@
 -- Bytes that spell a packet are read as that packet whatever follows, and what is read is spelled so.
-use Rattle.std.proofs.Common.{◌≡◌, ℕ, ◌+◌, ◌^◌, ◌<◌, ◌≤◌, Bool, true, false, List, [], ◌++◌, length, take, drop, refl, sym, ap, ◌∙◌, arith, subst}
-use Rattle.std.specs.Prelude.{nat_lt, if◌then◌else◌, Option, Some, None}
+use Rattle.std.proofs.Common.{◌≡◌, ℕ, ◌+◌, ◌^◌, ◌<◌, ◌≤◌, List, [], ◌++◌, length, take, drop, refl, sym, ap, ◌∙◌, arith, subst}
+use Rattle.std.specs.Prelude.{Option, Some, None}
 use Rattle.std.proofs.Math.Seq.{take-append_seam}
-use Rattle.std.proofs.lemmas.List.{append_assoc, append_cancel_left, length-append, length-drop, length-take, take-append-drop, take-append-le, drop-append-le, drop-take, take-take}
-use Rattle.std.proofs.lemmas.Bool.Decides.{nat_tests}
+use Rattle.std.proofs.lemmas.List.{append_assoc, length-append, length-drop, length-take}
 use Rattle.cosim_model.specs.Values.{bit}
-use Rattle.cosim_model.specs.declared.session.Command.{Command}
-use Rattle.cosim_model.specs.Packets.{Packet, Body, Decoded, cmd_of, carries, carried, command_of as command_of_body}
-use Rattle.cosim_model.specs.Packets.Decoded.{Valid, Malformed}
-use Rattle.rp_header.specs.Numbers.{number, AreBytes}
-use Rattle.rp_header.specs.NumberLaws.{number-lt, number-take, number-append, AreBytes-drop, AreBytes-take, take-add}
-use Rattle.rp_header.specs.Headers.{command_of, command_number, header_bytes, refusal}
+use Rattle.cosim_model.specs.Packets.{Packet, Body, cmd_of, command_of as command_of_body}
+use Rattle.rp_header.specs.Numbers.{AreBytes}
+use Rattle.rp_header.specs.NumberLaws.{number-lt, AreBytes-drop, AreBytes-take, take-add}
+use Rattle.rp_header.specs.Headers.{command_of, header_bytes, refusal}
 use Rattle.rp_header.specs.HeaderLaws.{StartsWith, StartsWith-header, header-front, refusal-none, refusal-lawful, command_number-of, command_number-lt}
-use Rattle.rp_packet.specs.declared.fault.Cause.{Cause}
 use Rattle.rp_header.specs.declared.fault.HeaderFault.{HeaderFault}
 use Rattle.rp_header.specs.declared.fault.HeaderFault.TheVariants as header_fault
-use Rattle.rp_packet.specs.Spelling.{IsBodyOf, Spells}
-use Rattle.rp_packet.specs.Refusals.{header_cause, body_cause, body_in, cmd_at, len_at, id_at, flags_at, dev_at, body_at, early_refusal, late_refusal, value_in, judged, first_at, first}
+use Rattle.rp_packet.specs.Spelling.{Spells}
+use Rattle.rp_packet.specs.Refusals.{header_cause, body_cause, body_in, cmd_at, len_at, id_at, flags_at, dev_at, body_at, early_refusal, late_refusal, value_in}
 use Rattle.rp_packet.specs.BodyLaws.{IsBodyOf-there, IsBodyOf-read, cmd_of-body_in}
 
 -- What is read where a spelling stands at the front.

@@ -1,5 +1,5 @@
 -- The table of refusals: the first row that applies to a packet is its fault. And what is read in a packet that isn't refused.
-use Rattle.std.specs.Prelude.{◌≡◌, ℕ, ◌+◌, Bool, true, false, not, nat_lt, nat_eq, if◌then◌else◌, List, length, take, drop, Option, Some, None}
+use Rattle.std.specs.Prelude.{ℕ, ◌+◌, Bool, not, nat_lt, if◌then◌else◌, List, length, take, drop, Option, Some, None}
 use Rattle.cosim_model.specs.Values.{bit}
 use Rattle.cosim_model.specs.declared.session.Command.{Command}
 use Rattle.cosim_model.specs.declared.session.Command.TheVariants as command

@@ -1,20 +1,20 @@
 -- Bytes are unfinished, refused, or begin with a packet: one of these, and more bytes don't change which packet.
-use Rattle.std.proofs.Common.{◌≡◌, ◌⊎◌, inl, inr, ℕ, ◌+◌, ◌<◌, ◌≤◌, Bool, true, false, List, [], ◌∷◌, ◌++◌, length, take, drop, refl, sym, ap, ◌∙◌, arith, subst}
+use Rattle.std.proofs.Common.{◌≡◌, inl, inr, ℕ, ◌+◌, ◌<◌, ◌≤◌, Bool, true, false, List, ◌++◌, length, take, drop, refl, sym, ap, ◌∙◌, arith}
 use Rattle.std.specs.Prelude.{nat_lt, if◌then◌else◌, Option, Some, None}
-use Rattle.std.proofs.lemmas.List.{append_assoc, append_cancel_left, length-append, length-drop, take-append-le, drop-append-le}
+use Rattle.std.proofs.lemmas.List.{length-append, length-drop, take-append-le, drop-append-le}
 use Rattle.std.proofs.lemmas.Bool.Decides.{nat_tests}
 use Rattle.process_network.specs.PacketProcesses.{IsDecided}
 use Rattle.cosim_model.specs.Values.{bit}
 use Rattle.cosim_model.specs.Packets.{Packet, Decoded}
 use Rattle.cosim_model.specs.Packets.Decoded.{Valid, Malformed}
-use Rattle.rp_header.specs.Numbers.{number, AreBytes}
+use Rattle.rp_header.specs.Numbers.{number}
 use Rattle.rp_header.specs.NumberLaws.{number-append}
 use Rattle.rp_header.specs.Headers.{command_of, refusal}
 use Rattle.rp_packet.specs.declared.fault.Cause.{Cause}
 use Rattle.rp_packet.specs.Spelling.{Spells}
-use Rattle.rp_packet.specs.Refusals.{header_cause, body_cause, body_in, place_of, cmd_at, len_at, id_at, flags_at, dev_at, body_at, early_refusal, late_refusal, value_in, judged, first_at, first}
-use Rattle.rp_packet.specs.ReadingLaws.{Begins, Begins-Spells, length-Spells, Spells-value_in, one-value}
-use Rattle.rp_packet.specs.Streams.{Unfinished, Refuses, Bad}
+use Rattle.rp_packet.specs.Refusals.{header_cause, body_cause, body_in, cmd_at, len_at, id_at, flags_at, dev_at, body_at, early_refusal, late_refusal, value_in, judged, first_at, first}
+use Rattle.rp_packet.specs.ReadingLaws.{Begins-Spells, length-Spells}
+use Rattle.rp_packet.specs.Streams.{Unfinished}
 
 less : (m n : ℕ) → m < n → nat_lt m n ≡ true
 less m n h = grind (arith, nat_tests)
@@ -121,7 +121,7 @@ value-stays b more long whole =
     ∙ ap (λ n. record { id = id_at b; flags = n; dev = dev_at b; body = body_in (command_of (cmd_at b)) (bit n 1) (body_at x) }) same.flags_are
     ∙ ap (λ p. record { id = id_at b; flags = flags_at b; dev = dev_at b; body = body_in (command_of (cmd_at b)) (bit (flags_at b) 1) p }) (body-stays b more long whole)
 
-same-some : {A : Type 0} (x y : A) → ◌≡◌ {A = Option A} (Some x) (Some y) → x ≡ y
+pub same-some : {A : Type 0} (x y : A) → ◌≡◌ {A = Option A} (Some x) (Some y) → x ≡ y
 same-some x y e = cc
 
 judged-stays : (b more : List ℕ) (r : Option Cause) → value_in (b ++ more) ≡ value_in b → len_at (b ++ more) ≡ len_at b → ◌≡◌ {A = Option (Decoded Cause × ℕ)} (Some (judged (b ++ more) r, 20 + len_at (b ++ more))) (Some (judged b r, 20 + len_at b))

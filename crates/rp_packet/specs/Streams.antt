@@ -36,3 +36,16 @@ pub record Faulty (vs : List Packet) (b : List ℕ) (start place : ℕ) (cause :
   pub whole : b ≡ front ++ rest
   pub size : length front ≡ start
   pub bad : Bad rest place cause
+
+-- a list that is a stream, and one that is faulty
+pub record IsStream (b : List ℕ) : Type 0 where
+  pub values : List Packet
+  pub rest : List ℕ
+  pub is : Stream values b rest
+
+pub record IsFaulty (b : List ℕ) : Type 0 where
+  pub values : List Packet
+  pub start : ℕ
+  pub place : ℕ
+  pub cause : Cause
+  pub is : Faulty values b start place cause

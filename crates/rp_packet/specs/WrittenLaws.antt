@@ -1,21 +1,20 @@
 -- The bytes that are written for a value that fits spell that value.
-use Rattle.std.proofs.Common.{◌≡◌, ◌⊎◌, inl, inr, ℕ, zero, suc, ◌+◌, ◌*◌, ◌/◌, ◌%◌, ◌-◌, ◌^◌, ◌<◌, ◌≤◌, Bool, true, false, List, [], ◌∷◌, ◌++◌, length, take, drop, refl, sym, ap, ◌∙◌, arith, subst}
-use Rattle.std.specs.Prelude.{not, ◌&&◌, nat_lt, nat_eq, if◌then◌else◌, Option, Some, None}
+use Rattle.std.proofs.Common.{◌≡◌, inl, inr, ℕ, zero, suc, ◌+◌, ◌*◌, ◌/◌, ◌%◌, ◌-◌, ◌^◌, ◌<◌, ◌≤◌, Bool, true, false, List, [], ◌∷◌, ◌++◌, length, take, drop, refl, sym, ap, ◌∙◌, arith, subst}
+use Rattle.std.specs.Prelude.{not, ◌&&◌, nat_lt, nat_eq, if◌then◌else◌, Some, None}
 use Rattle.std.proofs.Math.Seq.{take-append_seam}
 use Rattle.std.proofs.lemmas.List.{append-nil, length-append, length-drop, drop-append-le, take-append-le}
 use Rattle.std.proofs.lemmas.Bool.Decides.{nat_tests}
-use Rattle.cosim_model.specs.Packets.{Packet, Body, BusFields, cmd_of, carries, is_extended}
-use Rattle.cosim_model.specs.Packets.Body.{Nop, Hello, Cfg, Read, Write, Interrupt, Sync}
-use Rattle.rp_header.specs.Numbers.{be, number, field, joined, IsNumberAt, IsFieldAt}
+use Rattle.cosim_model.specs.Packets.{BusFields, carries, is_extended}
+use Rattle.rp_header.specs.Numbers.{be, field, IsNumberAt}
 use Rattle.rp_header.specs.NumberLaws.{length-be, number_at, IsNumberAt-front, IsNumberAt-behind, drop-behind}
-use Rattle.rp_control.specs.Controls.{AreWords, AreCapsAt, IsHello, IsCfg, IsInterrupt, IsSync, caps_bytes, hello_bytes, cfg_bytes, interrupt_bytes, sync_bytes}
+use Rattle.rp_control.specs.Controls.{AreWords, IsHello, IsCfg, IsInterrupt, IsSync, caps_bytes, hello_bytes, cfg_bytes, interrupt_bytes, sync_bytes}
 use Rattle.rp_control.specs.ControlLaws.{length-caps_bytes}
-use Rattle.rp_busaccess.specs.Buses.{data_count, AreApart, IsStart, IsOld, StandsAt, IsPart, IsExtended, IsBus}
-use Rattle.rp_busaccess.specs.Writing.{start_bytes, more_bytes, bus_bytes, bus_size, enables_place, write_fault}
+use Rattle.rp_busaccess.specs.Buses.{data_count, AreApart, IsStart, IsOld, StandsAt, IsPart, IsExtended}
+use Rattle.rp_busaccess.specs.Writing.{start_bytes, more_bytes, bus_size, enables_place, write_fault}
 use Rattle.rp_busaccess.specs.declared.fault.WriteFault.{WriteFault}
 use Rattle.rp_busaccess.specs.declared.fault.WriteFault.TheVariants as fault
-use Rattle.rp_packet.specs.Spelling.{IsBodyOf, Spells, body_bytes, packet_bytes, body_fault, packet_fault, BusFits, BodyFits, Fits}
-use Rattle.rp_packet.specs.WritingLaws.{length-hello_bytes, length-start, length-more, length-bus_bytes}
+use Rattle.rp_packet.specs.Spelling.{BusFits}
+use Rattle.rp_packet.specs.WritingLaws.{length-hello_bytes, length-start, length-more}
 
 -- a number in bytes stays where more follow
 more-behind : (place k n : ℕ) (b rest : List ℕ) → place + k ≤ length b → IsNumberAt place k n b → IsNumberAt place k n (b ++ rest)

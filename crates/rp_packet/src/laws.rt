@@ -1,12 +1,35 @@
-ghost use Rattle.std.specs.Prelude.{◌≡◌, ◌++◌, List, ℕ, []};
+ghost use Rattle.std.specs.Prelude.{◌≡◌, ◌⊎◌, ◌∷◌, ◌++◌, List, ℕ, [], take, Some, None};
 ghost use Rattle.cosim_model.specs.Packets.{Packet as PacketValue, IsCodec};
+ghost use Rattle.cosim_model.specs.Packets.Decoded.{Valid, Malformed};
+ghost use Rattle.rp_header.specs.Numbers.{AreBytes};
+ghost use Rattle.rp_packet.specs.declared.fault.Cause.{Cause};
 ghost use Rattle.rp_packet.specs.Spelling.{Spells, Fits, Writable, packet_bytes};
-ghost use Rattle.rp_packet.specs.Refusals.{first};
+ghost use Rattle.rp_packet.specs.Refusals.{first, place_of};
+ghost use Rattle.rp_packet.specs.Streams.{Unfinished, Bad, Spelled, Stream, Faulty, IsStream, IsFaulty};
 
 /// A list of bytes spells one packet at most, and no spelling is a proper prefix of another.
 pub fn one_reading()
     ensures one_value { (v w : PacketValue) (b : List ℕ) → Spells v b → Spells w b → v ≡ w }
     ensures no_prefix { (v w : PacketValue) (b more : List ℕ) → Spells v b → Spells w (b ++ more) → more ≡ [] }
+{}
+
+/// Every list of bytes is a stream of packets or a faulty one, never both, and in one way alone: with one list of values, and
+/// one rest or one fault behind it.
+pub fn every_stream()
+    ensures either { (b : List ℕ) → AreBytes b → IsStream b ⊎ IsFaulty b }
+    ensures never_both { (b : List ℕ) (vs ws : List PacketValue) (rest : List ℕ) (start place : ℕ) (cause : Cause) → Stream vs b rest → Faulty ws b start place cause → ⊥ }
+    ensures one_stream { (b : List ℕ) (vs ws : List PacketValue) (rest other : List ℕ) → Stream vs b rest → Stream ws b other → (vs ≡ ws) × (rest ≡ other) }
+    ensures one_fault { (b : List ℕ) (vs ws : List PacketValue) (start other place elsewhere : ℕ) (cause another : Cause) → Faulty vs b start place cause → Faulty ws b other elsewhere another →
+        (vs ≡ ws) × (start ≡ other) × (place ≡ elsewhere) × (cause ≡ another) }
+{}
+
+/// Packets taken from the front of a list, one after the other, are those of the stream that it is: what is taken is spelled
+/// behind what was, and where no more is taken, the bytes left are unfinished or refused.
+pub fn taken_from_the_front()
+    ensures taken { (b : List ℕ) (v : PacketValue) (n : ℕ) → AreBytes b → first b ≡ Some (Valid v, n) → Spells v (take n b) }
+    ensures more { (vs : List PacketValue) (b : List ℕ) (v : PacketValue) (more : List ℕ) → Spelled vs b → Spells v more → Spelled (vs ++ (v ∷ [])) (b ++ more) }
+    ensures unfinished { (b : List ℕ) → first b ≡ None → Unfinished b }
+    ensures refused { (b : List ℕ) (cause : Cause) (n : ℕ) → first b ≡ Some (Malformed cause, n) → Bad b (place_of cause) cause }
 {}
 
 /// What is written for a value whose numbers fit their fields, as those of each packet in memory do, is a spelling of it. So it

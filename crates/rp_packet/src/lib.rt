@@ -11,7 +11,7 @@ mod tests;
 mod writing;
 
 pub use fault::{Cause, PacketFault, ReadFault};
-pub use laws::{codec_laws, one_reading, one_writing};
+pub use laws::{codec_laws, every_stream, one_reading, one_writing, taken_from_the_front};
 pub use packet::{Packet, Tag};
 pub use reading::packet_len;
 pub use rows::{FAULTS, FaultRows};

@@ -1,7 +1,7 @@
-use Rattle.std.proofs.Common.{◌≡◌, ◌∙◌, sym, ap, subst}
-use Rattle.std.specs.Prelude.{Option, Some}
+use Rattle.std.proofs.Common.{◌∙◌, sym, ap, subst}
+use Rattle.std.specs.Prelude.{Option}
 use Rattle.rp_packet.specs.declared.fault.Cause.{Cause}
-use Rattle.rp_packet.specs.Refusals.{header_cause, early_refusal}
+use Rattle.rp_packet.specs.Refusals.{header_cause}
 use Rattle.rp_packet.specs.Reading.{IsEarlyFault}
 use Rattle.rp_packet.specs.PacketLaws.{header-at, early-front}
 use Rattle.rp_packet.proofs.reading.header_of.Goals as goal

@@ -1,4 +1,4 @@
-use Rattle.std.proofs.Common.{◌≡◌, ◌∙◌, ◌+◌, ◌++◌, ◌≤◌, List, ℕ, length, ap, sym, arith}
+use Rattle.std.proofs.Common.{◌≡◌, ◌∙◌, ◌+◌, ◌≤◌, List, ℕ, length, ap, sym, arith}
 use Rattle.rp_header.specs.Headers.{header_bytes, command_number}
 use Rattle.rp_busaccess.specs.Bits.{fields_of}
 use Rattle.rp_busaccess.specs.Writing.{bus_bytes, bus_size}

@@ -1,4 +1,4 @@
-use Rattle.std.proofs.Common.{◌≡◌, ◌∙◌, ◌+◌, ◌*◌, ◌++◌, ◌≤◌, List, ℕ, length, ap, sym, arith}
+use Rattle.std.proofs.Common.{◌≡◌, ◌∙◌, ◌+◌, ◌*◌, ◌≤◌, List, ℕ, length, ap, arith}
 use Rattle.rp_header.specs.Headers.{header_bytes}
 use Rattle.rp_control.specs.Controls.{hello_bytes}
 use Rattle.rp_packet.specs.WritingLaws.{length-packet, length-header, length-hello_bytes, no-room, appended, short-hello}

@@ -1,4 +1,4 @@
-use Rattle.std.proofs.Common.{◌≡◌, ◌+◌, length, arith}
+use Rattle.std.proofs.Common.{◌+◌, length, arith}
 use Rattle.rp_header.specs.Headers.{command_number}
 use Rattle.rp_packet.specs.WritingLaws.{length-packet, no-room}
 use Rattle.rp_packet.proofs.writing.put_small.Goals as goal

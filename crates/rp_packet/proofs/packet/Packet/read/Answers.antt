@@ -1,6 +1,4 @@
-use Rattle.std.proofs.Common.{◌≡◌, ◌∙◌, sym, ap, drop, subst, arith, List, ℕ}
-use Rattle.rp_header.specs.Numbers.{AreBytes}
-use Rattle.rp_packet.specs.Spelling.{IsBodyOf}
+use Rattle.std.proofs.Common.{arith}
 use Rattle.rp_packet.specs.PacketLaws.{Answers, read-answers, answer-ok, answer-malformed, answer-exact, answer-refused, fault-memory, early-fault, fault-same}
 use Rattle.rp_packet.proofs.packet.Packet.read.Goals as goal
 
