@@ -1,5 +1,5 @@
 -- What a bus packet's value is to contracts, and its attributes.
-use Rattle.std.specs.Prelude.{◌≡◌, ℕ, ◌+◌, ◌*◌, ◌-◌, ◌/◌, ◌%◌, ◌^◌, ◌<◌, ◌≤◌}
+use Rattle.std.specs.Prelude.{◌≡◌, ℕ, ◌+◌, ◌*◌, ◌-◌, ◌/◌, ◌%◌, ◌<◌}
 use Rattle.std.proofs.Common.{arith}
 use Rattle.cosim_model.specs.Packets.{BusFields}
 use Rattle.rp_busaccess.specs.declared.bus.BusAccess.{BusAccess}

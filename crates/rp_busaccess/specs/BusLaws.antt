@@ -1,13 +1,15 @@
 -- A body that isn't refused means one thing: what is read in it.
-use Rattle.std.proofs.Common.{◌≡◌, ◌⊎◌, inl, inr, subst, ℕ, zero, suc, ◌+◌, ◌*◌, ◌/◌, ◌%◌, ◌-◌, ◌^◌, ◌<◌, ◌≤◌, Bool, true, false, List, [], ◌∷◌, ◌++◌, length, take, drop, refl, sym, ap, ◌∙◌, arith}
-use Rattle.std.specs.Prelude.{◌||◌, nat_eq, None, if◌then◌else◌}
+use Rattle.std.proofs.Common.{◌≡◌, ◌⊎◌, inl, inr, subst, ℕ, ◌+◌, ◌*◌, ◌/◌, ◌%◌, ◌-◌, ◌^◌, ◌<◌, ◌≤◌, Bool, true, false, List, length, take, drop, refl, sym, ap, ◌∙◌, arith}
+use Rattle.std.specs.Prelude.{◌↔◌, nat_eq, None, if◌then◌else◌}
+use Rattle.std.proofs.lemmas.List.{length-take, length-drop}
 use Rattle.std.proofs.lemmas.Bool.Decides.{nat_tests}
 use Rattle.cosim_model.specs.Values.{bit}
 use Rattle.cosim_model.specs.Packets.{BusFields, is_extended}
-use Rattle.rp_header.specs.Numbers.{be, number, field, IsFieldAt, IsNumberAt, AreBytes}
+use Rattle.rp_header.specs.Numbers.{number, field, IsFieldAt, IsNumberAt, AreBytes}
 use Rattle.rp_header.specs.NumberLaws.{number-lt, number_at, IsNumberAt-number, AreBytes-drop}
-use Rattle.rp_busaccess.specs.Buses.{data_count, IsStart, IsOld, StandsAt, IsPart, AreApart, IsExtended, IsBus}
-use Rattle.rp_busaccess.specs.Refusals.{stands, apart, refused_bus, count_in, bus_refusal, part_in, data_in, enables_in, master_in, fields_in}
+use Rattle.rp_busaccess.specs.Buses.{data_count, IsStart, IsOld, IsPart, AreApart, IsExtended, IsBus}
+use Rattle.rp_busaccess.specs.Refusals.{stands, apart, refused_bus, count_in, bus_refusal, part_in, master_in, fields_in, ReadsTight}
+use Rattle.rp_busaccess.specs.Writing.{enables_place, bus_size, IsTightBus}
 
 -- what a body that isn't refused has
 old-within : (size count payload enables enable_count : ℕ) → refused_bus size false count payload enables enable_count ≡ None → 38 + count ≤ size
@@ -51,7 +53,7 @@ IsPart-there place count body test =
       | inr some ↦ inr (some.0, record { behind = some.1; within = some.2; bytes = refl })
     ]
 
-IsPart-read : (place count : ℕ) (part body : List ℕ) → IsPart place count part body → (stands (length body) place count ≡ true) × (part_in place count body ≡ part)
+pub IsPart-read : (place count : ℕ) (part body : List ℕ) → IsPart place count part body → (stands (length body) place count ≡ true) × (part_in place count body ≡ part)
 IsPart-read place count part body is =
     elim is as (λ _. (stands (length body) place count ≡ true) × (part_in place count body ≡ part)) [
       | inl none ↦ (stands-none (length body) place count none.0, ap (λ n. take n (drop (place - 20) body)) none.0 ∙ sym none.1)
@@ -200,4 +202,70 @@ IsBus-read carries f body is =
     elim is.layout as (λ _. ReadsBus carries f body) [
       | inl old ↦ old-read carries f body is.start old
       | inr extended ↦ extended-read carries f body is.start extended
+    ]
+
+-- how many bytes are carried
+pub IsPart-length : (place count : ℕ) (part body : List ℕ) → IsPart place count part body → length part ≡ count
+IsPart-length place count part body (inl none) = ap length none.1 ∙ sym none.0
+IsPart-length place count part body (inr some) =
+    let at = some.1 in
+    let behind = at.behind in
+    let within = at.within in
+    let size = ap length at.bytes in
+    omega (arith, size, behind, within, length-take count (drop (place - 20) body), length-drop (place - 20) body)
+
+pub IsOld-length : (carries : Bool) (f : BusFields) (body : List ℕ) → IsOld carries f body → length f.payload ≡ data_count carries f
+IsOld-length carries f body is =
+    let within = is.within in
+    let size = ap length is.payload in
+    omega (arith, size, within, length-take (data_count carries f) (drop 38 body), length-drop 38 body)
+
+-- A body is tight where it is read so.
+abbrev layout_size : BusFields → Bool → ℕ
+layout_size f x = if x then 60 + length f.payload + length f.enables else 38 + length f.payload
+
+old-looks : (carries : Bool) (f : BusFields) (body : List ℕ) → IsStart f body → IsOld carries f body → ReadsTight false carries body ↔ IsTightBus false f body
+old-looks carries f body start is =
+    let size : bus_size f ≡ 38 + length f.payload = ap (layout_size f) is.old in
+    let counted = IsOld-length carries f body is in
+    let count = count-is carries f body (number_at 24 4 f.len body start.len_at) in
+    (λ reads. omega (arith, size, counted, count, reads), λ tight. omega (arith, size, counted, count, tight))
+
+at-place : (place n : ℕ) (body : List ℕ) → AreBytes body → 60 ≤ length body → place ≤ 56 → number 4 (drop place body) ≡ n → IsNumberAt place 4 n body
+at-place place n body bytes long low is = subst (λ (m : ℕ). IsNumberAt place 4 m body) is (IsNumberAt-number place 4 body bytes (omega (arith, long, low)))
+
+extended-looks : (carries : Bool) (f : BusFields) (body : List ℕ) → AreBytes body → IsStart f body → IsExtended carries f body → ReadsTight true carries body ↔ IsTightBus true f body
+extended-looks carries f body bytes start is =
+    let size : bus_size f ≡ 60 + length f.payload + length f.enables = ap (layout_size f) is.extended in
+    let carried = IsPart-length (field 64 4 body) (data_count carries f) f.payload body is.payload in
+    let count = count-is carries f body (number_at 24 4 f.len body start.len_at) in
+    let counted : count_in carries body ≡ length f.payload = count ∙ sym carried in
+    let enabled : field 76 4 body ≡ length f.enables = sym (IsPart-length (field 72 4 body) (field 76 4 body) f.enables body is.enabled) in
+    let place : (if nat_eq (field 76 4 body) 0 then 0 else 80 + count_in carries body) ≡ enables_place f =
+    ap (λ n. if nat_eq n 0 then 0 else 80 + count_in carries body) enabled ∙ ap (λ n. if nat_eq (length f.enables) 0 then 0 else 80 + n) counted in (
+      λ reads. let length_is = reads.3 in (
+        at-place 44 80 body bytes is.long (omega arith) reads.0,
+        at-place 48 0 body bytes is.long (omega arith) reads.1,
+        at-place 52 (enables_place f) body bytes is.long (omega arith) (reads.2 ∙ place),
+        omega (arith, size, counted, enabled, length_is),
+      ),
+      λ tight. let length_is = tight.3 in (
+        number_at 44 4 80 body tight.0,
+        number_at 48 4 0 body tight.1,
+        number_at 52 4 (enables_place f) body tight.2 ∙ sym place,
+        omega (arith, size, counted, enabled, length_is),
+      ),
+    )
+
+both-layouts : (x y : Bool) (carries : Bool) (f : BusFields) (body : List ℕ) → x ≡ y → is_extended f ≡ y → ReadsTight y carries body ↔ IsTightBus y f body → ReadsTight x carries body ↔ IsTightBus (is_extended f) f body
+both-layouts x y carries f body is_x is_f iff =
+    subst (λ (t : Bool). ReadsTight t carries body ↔ IsTightBus (is_extended f) f body) (sym is_x)
+    (subst (λ (t : Bool). ReadsTight y carries body ↔ IsTightBus t f body) (sym is_f) iff)
+
+pub tight-bus : (carries : Bool) (f : BusFields) (body : List ℕ) → AreBytes body → IsBus carries f body → ReadsTight (bit (field 28 8 body) 2) carries body ↔ IsTightBus (is_extended f) f body
+tight-bus carries f body bytes is =
+    let x : bit (field 28 8 body) 2 ≡ is_extended f = ap (λ a. bit a 2) (number_at 8 8 f.attributes body is.start.attributes_at) in
+    elim is.layout as (λ _. ReadsTight (bit (field 28 8 body) 2) carries body ↔ IsTightBus (is_extended f) f body) [
+      | inl old ↦ both-layouts (bit (field 28 8 body) 2) false carries f body (x ∙ old.old) old.old (old-looks carries f body is.start old)
+      | inr extended ↦ both-layouts (bit (field 28 8 body) 2) true carries f body (x ∙ extended.extended) extended.extended (extended-looks carries f body bytes is.start extended)
     ]

@@ -1,6 +1,6 @@
 -- What the body of a bus packet means, in the old and in the extended layout. Places are counted from the packet's first
 -- byte.
-use Rattle.std.specs.Prelude.{◌≡◌, ◌⊎◌, ℕ, ◌+◌, ◌*◌, ◌-◌, ◌/◌, ◌%◌, ◌^◌, ◌<◌, ◌≤◌, Bool, true, false, if◌then◌else◌, List, [], length, take, drop}
+use Rattle.std.specs.Prelude.{◌≡◌, ◌⊎◌, ℕ, ◌+◌, ◌-◌, ◌/◌, ◌%◌, ◌^◌, ◌<◌, ◌≤◌, Bool, true, false, if◌then◌else◌, List, [], length, take, drop}
 use Rattle.cosim_model.specs.Packets.{BusFields, is_extended}
 use Rattle.rp_header.specs.Numbers.{field, IsFieldAt}
 

@@ -69,3 +69,9 @@ fields_in extended carries body = record {
   payload = data_in extended carries body;
   enables = enables_in extended body;
 }
+
+-- what is read in a tight body
+abbrev pub ReadsTight : Bool → Bool → List ℕ → Type 0
+ReadsTight true carries body = (field 64 4 body ≡ 80) × (field 68 4 body ≡ 0) × (field 72 4 body ≡ (if nat_eq (field 76 4 body) 0 then 0 else 80 + count_in carries body))
+    × (length body ≡ 60 + count_in carries body + field 76 4 body)
+ReadsTight false carries body = length body ≡ 38 + count_in carries body

@@ -1,7 +1,7 @@
 -- The canonical bytes of a bus packet's body, and which values have none.
 use Rattle.std.specs.Prelude.{◌≡◌, ℕ, ◌+◌, ◌/◌, ◌%◌, Bool, true, false, not, ◌&&◌, nat_lt, nat_eq, if◌then◌else◌, List, [], ◌∷◌, length, Option, Some, None}
 use Rattle.cosim_model.specs.Packets.{BusFields, is_extended}
-use Rattle.rp_header.specs.Numbers.{be, joined}
+use Rattle.rp_header.specs.Numbers.{be, joined, IsFieldAt}
 use Rattle.rp_busaccess.specs.Buses.{data_count}
 use Rattle.rp_busaccess.specs.declared.fault.WriteFault.{WriteFault}
 use Rattle.rp_busaccess.specs.declared.fault.WriteFault.TheVariants.{MasterTooWide, DataCount, EnablesInOld, TooLong, NoMemory}
@@ -21,6 +21,12 @@ bus_bytes f = if is_extended f then joined (start_bytes f ∷ more_bytes f ∷ f
 
 abbrev pub bus_size : BusFields → ℕ
 bus_size f = if is_extended f then 60 + length f.payload + length f.enables else 38 + length f.payload
+
+-- A tight body has its data and enables in this order right behind its fields, nothing behind them, and zeros in the fields
+-- that mean nothing. The Boolean is the layout.
+abbrev pub IsTightBus : Bool → BusFields → List ℕ → Type 0
+IsTightBus true f body = IsFieldAt 64 4 80 body × IsFieldAt 68 4 0 body × IsFieldAt 72 4 (enables_place f) body × (length body ≡ bus_size f)
+IsTightBus false f body = length body ≡ bus_size f
 
 -- the first reason for which a value isn't written: an old layout has no room for a wide master, the data aren't as many as
 -- are carried, an old layout has no enables, the body would be too long

@@ -1,9 +1,10 @@
-ghost use Rattle.std.specs.Prelude.{◌≡◌, ℕ, ◌<◌, ◌≤◌, None, Some, IfOk, IfErr, OnOk, MatchResult};
+ghost use Rattle.std.specs.Prelude.{◌≡◌, ◌↔◌, ℕ, ◌<◌, ◌≤◌, None, Some, IsTrue, IfOk, IfErr, OnOk, MatchResult};
 ghost use Rattle.rp_busaccess.specs.Refusals.{bus_refusal, IsRefusal};
 ghost use Rattle.rp_busaccess.specs.Buses.{IsBus};
+ghost use Rattle.rp_busaccess.specs.Writing.{IsTightBus};
 
 use crate::fault::BusFault;
-use crate::layout::{is_extended, master_of, parts_of};
+use crate::layout::{is_extended, is_tight, master_of, parts_of};
 use cos_base::{NoMemory, Octets};
 use rp_header::{u32_at, u64_at};
 use std::alloc::Global;
@@ -31,17 +32,18 @@ pub struct BusAccess {
 impl BusAccess {
     ghost use Rattle.std.specs.Prelude.{List, length, OnErr, IsOk, ◌++◌, ◌-◌, true};
     ghost use Rattle.cosim_model.specs.Values.{bit};
-    ghost use Rattle.cosim_model.specs.Packets.{BusFields, code_of, is_enabled};
+    ghost use Rattle.cosim_model.specs.Packets.{BusFields, code_of, is_enabled, is_extended as has_extended};
     ghost use Rattle.rp_busaccess.specs.Bits.{fields_of, recoded};
     ghost use Rattle.rp_busaccess.specs.declared.fault.BusFault.TheVariants.{NoMemory as WantOfMemory};
 
-    /// Whether [`BusAccess::read`] would refuse a body. It takes no memory.
-    pub fn judge(body: &[u8], carries: bool) -> Result<(), BusFault>
+    /// Whether a body is the canonical one of what it means, or why [`BusAccess::read`] refuses it. It takes no memory.
+    pub fn is_canonical(body: &[u8], carries: bool) -> Result<bool, BusFault>
         ensures lawful { OnOk result (bus_refusal carries body.now ≡ None) }
         ensures refused { IfErr result (λ f. bus_refusal carries body.now ≡ Some f) }
+        ensures exact { (f : BusFields) → IsBus carries f body.now → IfOk result (λ canonical. IsTrue canonical ↔ IsTightBus (has_extended f) f body.now) }
     {
         match parts_of(body, carries) {
-            Ok(_) => Ok(()),
+            Ok(_) => Ok(is_tight(body, carries)),
             Err(fault) => Err(fault),
         }
     }

@@ -1,7 +1,7 @@
 ghost use Rattle.std.specs.Prelude.{◌≡◌, ◌+◌, ◌≤◌, ◌*◌, [], Some, None, IfOk, IfErr, OnOk, MatchOption, IsTrue, ◌↔◌, length, true, false, if◌then◌else◌};
 ghost use Rattle.cosim_model.specs.Values.{bit};
 ghost use Rattle.rp_header.specs.Numbers.{field};
-ghost use Rattle.rp_busaccess.specs.Refusals.{count_in, stands, apart, refused_extended, bus_refusal, data_in, enables_in, part_in, master_in};
+ghost use Rattle.rp_busaccess.specs.Refusals.{count_in, stands, apart, refused_extended, bus_refusal, data_in, enables_in, part_in, master_in, ReadsTight};
 
 use crate::fault::BusFault;
 use rp_header::{u16_at, u32_at, u64_at};
@@ -135,4 +135,22 @@ pub fn master_of(body: &[u8]) -> u64
     } else {
         low
     }
+}
+
+/// Whether a body has the canonical places, and nothing behind its parts.
+pub fn is_tight(body: &[u8], carries: bool) -> bool
+    requires { (if bit (field 28 8 body.now) 2 then 60 else 38) ≤ length body.now }
+    ensures { IsTrue result ↔ ReadsTight (bit (field 28 8 body.now) 2) carries body.now }
+{
+    let size = body.len() as u64;
+    let count = if carries { u64::from(u32_at(body, 24)) } else { 0 };
+    if !is_extended(u64_at(body, 8)) {
+        return size == 38 + count;
+    }
+    let enables = u64::from(u32_at(body, 56));
+    let place = if enables == 0 { 0 } else { 80 + count };
+    u32_at(body, 44) == 80
+        && u32_at(body, 48) == 0
+        && u64::from(u32_at(body, 52)) == place
+        && size == 60 + count + enables
 }

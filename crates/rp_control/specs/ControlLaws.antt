@@ -4,11 +4,11 @@ use Rattle.std.specs.Prelude.{◌||◌, ◌==◌, nat_eq, None, if◌then◌else
 use Rattle.std.specs.List.{list_any}
 use Rattle.cosim_model.specs.Packets.{lists}
 use Rattle.std.proofs.lemmas.Bool.Decides.{nat_tests}
-use Rattle.std.proofs.lemmas.List.{append_assoc, append-nil, length-append, length-drop, length-take, drop-drop, take-append-drop, take-take, drop-take}
+use Rattle.std.proofs.lemmas.List.{append_assoc, append-nil, length-append, length-drop, length-take, drop-drop, take-take}
 use Rattle.rp_header.specs.Numbers.{be, number, field, IsFieldAt, AreBytes}
 use Rattle.rp_header.specs.NumberLaws.{be-number, length-be, number-be, number-lt, number_at, IsNumberAt-number, AreBytes-drop, AreBytes-take, drop-behind, take-add}
-use Rattle.rp_control.specs.Controls.{AreWords, caps_bytes, AreCapsAt, IsHello, IsCfg, IsInterrupt, IsSync}
-use Rattle.rp_control.specs.Refusals.{caps_wanted, refused_hello, hello_refusal, numbers_in, caps_part, caps_in}
+use Rattle.rp_control.specs.Controls.{IsTightHello, AreWords, caps_bytes, AreCapsAt, IsHello, IsCfg, IsInterrupt, IsSync}
+use Rattle.rp_control.specs.Refusals.{ReadsTight, caps_wanted, refused_hello, hello_refusal, numbers_in, caps_in}
 
 pub IsSync-there : (body : List ℕ) → AreBytes body → 8 ≤ length body → IsSync (field 20 8 body) body
 IsSync-there body bytes long = record { long = long; time_at = IsNumberAt-number 0 8 body bytes (omega arith) }
@@ -226,3 +226,28 @@ IsHello-read major minor caps body is =
       minor_is = number_at 2 2 minor body is.minor_at;
       caps_are = there.1;
     }
+
+-- A hello is tight where it is read so.
+hello-count : (major minor : ℕ) (caps body : List ℕ) → IsHello major minor caps body → 12 ≤ length body → field 28 2 body ≡ length caps
+hello-count major minor caps body is long =
+    elim is.caps_at as (λ _. field 28 2 body ≡ length caps) [
+      | inl short ↦ let less = short.1 in absurd (omega (arith, less, long))
+      | inr more ↦ number_at 8 2 (length caps) body more.1
+    ]
+
+pub tight-read : (major minor : ℕ) (caps body : List ℕ) → IsHello major minor caps body → IsTightHello caps body → ReadsTight body
+tight-read major minor caps body is tight =
+    let size = tight.2 in
+    let long : 12 ≤ length body = omega (arith, size) in
+    let count = hello-count major minor caps body is long in
+    (long, number_at 4 4 32 body tight.0, number_at 10 2 0 body tight.1, omega (arith, size, count))
+
+pub tight-there : (major minor : ℕ) (caps body : List ℕ) → AreBytes body → IsHello major minor caps body → ReadsTight body → IsTightHello caps body
+tight-there major minor caps body bytes is reads =
+    let long = reads.0 in
+    let size = reads.3 in
+    let count = hello-count major minor caps body is long in (
+      subst (λ (n : ℕ). IsFieldAt 24 4 n body) reads.1 (IsNumberAt-number 4 4 body bytes (omega (arith, long))),
+      subst (λ (n : ℕ). IsFieldAt 30 2 n body) reads.2 (IsNumberAt-number 10 2 body bytes (omega (arith, long))),
+      omega (arith, size, count),
+    )

@@ -47,6 +47,10 @@ pub record IsSync (time : ℕ) (body : List ℕ) : Type 0 where
   pub long : 8 ≤ length body
   pub time_at : IsFieldAt 20 8 time body
 
+-- A tight body of a hello has its capabilities right behind its fields and nothing behind them, and 0 in the reserved field.
+abbrev pub IsTightHello : List ℕ → List ℕ → Type 0
+IsTightHello caps body = IsFieldAt 24 4 32 body × IsFieldAt 30 2 0 body × (length body ≡ 12 + 4 * length caps)
+
 -- the canonical bytes: the capabilities stand right behind the fields, and nothing behind them
 abbrev pub hello_bytes : ℕ → ℕ → List ℕ → List ℕ
 hello_bytes major minor caps = joined (be major 2 ∷ be minor 2 ∷ be 32 4 ∷ be (length caps) 2 ∷ be 0 2 ∷ caps_bytes caps ∷ [])

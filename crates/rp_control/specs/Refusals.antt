@@ -1,5 +1,5 @@
 -- Which bodies of hello, cfg, interrupt and sync packets are refused, and what stands in the others.
-use Rattle.std.specs.Prelude.{◌≡◌, ℕ, zero, suc, ◌+◌, ◌*◌, ◌-◌, ◌/◌, Bool, not, ◌&&◌, nat_lt, nat_le, if◌then◌else◌, List, [], ◌∷◌, length, take, drop, Option, Some, None}
+use Rattle.std.specs.Prelude.{◌≡◌, ℕ, zero, suc, ◌+◌, ◌*◌, ◌-◌, ◌/◌, ◌≤◌, Bool, not, ◌&&◌, nat_lt, nat_le, if◌then◌else◌, List, [], ◌∷◌, length, take, drop, Option, Some, None}
 use Rattle.rp_header.specs.Numbers.{number, field}
 use Rattle.rp_control.specs.declared.fault.BodyFault.{BodyFault}
 use Rattle.rp_control.specs.declared.fault.BodyFault.TheVariants as fault
@@ -36,6 +36,10 @@ caps_part body = if caps_wanted (length body) (field 28 2 body) then take (4 * f
 
 abbrev pub caps_in : List ℕ → List ℕ
 caps_in body = numbers_in (length (caps_part body) / 4) (caps_part body)
+
+-- what is read in a tight one
+abbrev pub ReadsTight : List ℕ → Type 0
+ReadsTight body = (12 ≤ length body) × (field 24 4 body ≡ 32) × (field 30 2 body ≡ 0) × (length body ≡ 12 + 4 * field 28 2 body)
 
 -- a fault other than want of memory is the first that applies
 abbrev pub IsRefusal : BodyFault → Option BodyFault → Type 0

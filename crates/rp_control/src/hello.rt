@@ -1,6 +1,6 @@
-ghost use Rattle.std.specs.Prelude.{◌≡◌, ℕ, List, MatchResult, ◌++◌, ◌+◌, ◌-◌, ◌*◌, ◌/◌, ◌≤◌, length, drop, Some, None, IfOk, IfErr, OnOk, OnErr, IsOk};
+ghost use Rattle.std.specs.Prelude.{◌≡◌, ◌↔◌, ℕ, List, IsTrue, MatchResult, ◌++◌, ◌+◌, ◌-◌, ◌*◌, ◌/◌, ◌≤◌, length, drop, Some, None, IfOk, IfErr, OnOk, OnErr, IsOk};
 ghost use Rattle.rp_control.specs.Controls.{caps_bytes};
-ghost use Rattle.rp_control.specs.Refusals.{hello_refusal, caps_part, numbers_in, IsRefusal};
+ghost use Rattle.rp_control.specs.Refusals.{hello_refusal, caps_part, numbers_in, IsRefusal, ReadsTight};
 
 use crate::fault::BodyFault;
 use byteorder::{BigEndian, ByteOrder};
@@ -19,16 +19,17 @@ pub struct Hello {
 }
 
 impl Hello {
-    ghost use Rattle.rp_control.specs.Controls.{IsHello, hello_bytes};
+    ghost use Rattle.rp_control.specs.Controls.{IsHello, IsTightHello, hello_bytes};
     ghost use Rattle.rp_control.specs.declared.fault.BodyFault.TheVariants.{NoMemory as WantOfMemory};
 
-    /// Whether [`Hello::read`] would refuse a body. It takes no memory.
-    pub fn judge(body: &[u8]) -> Result<(), BodyFault>
+    /// Whether a body is the canonical one of what it means, or why [`Hello::read`] refuses it. It takes no memory.
+    pub fn is_canonical(body: &[u8]) -> Result<bool, BodyFault>
         ensures lawful { OnOk result (hello_refusal body.now ≡ None) }
         ensures refused { IfErr result (λ f. hello_refusal body.now ≡ Some f) }
+        ensures exact { (major minor : ℕ) (caps : List ℕ) → IsHello major minor caps body.now → IfOk result (λ canonical. IsTrue canonical ↔ IsTightHello caps body.now) }
     {
         match caps_slice(body) {
-            Ok(_) => Ok(()),
+            Ok(_) => Ok(is_tight(body)),
             Err(fault) => Err(fault),
         }
     }
@@ -114,6 +115,16 @@ fn caps_slice(body: &[u8]) -> Result<&[u8], BodyFault>
     }
     let (_, caps) = body.split_at(offset - 20);
     Ok(caps.split_at(4 * count).0)
+}
+
+/// Whether a body has the canonical fields, and the bytes of its capabilities behind them alone.
+fn is_tight(body: &[u8]) -> bool
+    ensures { IsTrue result ↔ ReadsTight body.now }
+{
+    body.len() >= 12
+        && u32_at(body, 4) == 32
+        && u16_at(body, 10) == 0
+        && body.len() == 12 + 4 * usize::from(u16_at(body, 8))
 }
 
 /// The numbers of four bytes that stand one behind the other.

@@ -137,7 +137,7 @@ size-test : (x : Bool) (f : BusFields) → FitsLayout x f → nat_lt 65536 (if x
 size-test true f fits = less-test 65536 (60 + length f.payload + length f.enables) (omega (arith, fits))
 size-test false f fits = let s = fits.2 in less-test 65536 (38 + length f.payload) (omega (arith, s))
 
-write-lawful : (carries : Bool) (f : BusFields) → length f.payload ≡ data_count carries f → FitsLayout (is_extended f) f → write_fault carries f ≡ None
+pub write-lawful : (carries : Bool) (f : BusFields) → length f.payload ≡ data_count carries f → FitsLayout (is_extended f) f → write_fault carries f ≡ None
 write-lawful carries f counted fits =
     chain-none (not (is_extended f) && nat_lt 65535 f.master) (not (nat_eq (length f.payload) (data_count carries f))) (not (is_extended f) && nat_lt 0 (length f.enables)) (nat_lt 65536 (bus_size f))
     (fault.MasterTooWide f.master) (fault.DataCount (data_count carries f) (length f.payload)) (fault.EnablesInOld (length f.enables)) (fault.TooLong (bus_size f))

@@ -13,3 +13,5 @@ pub mod PacketLaws
 pub mod Writing
 pub mod WrittenLaws
 pub mod CodecLaws
+pub mod CanonicalLaws
+pub mod JudgingLaws

@@ -48,7 +48,7 @@ early-front b front is =
     ∙ ap (λ n. header_cause (refusal n (number 4 (drop 4 (take 20 b))))) (number-take 4 20 b (omega arith))
     ∙ ap (λ n. header_cause (refusal (cmd_at b) n)) (front-number 4 16 b (omega arith))
 
-body-whole : (b : List ℕ) → IsOnePacket b → body_at b ≡ drop 20 b
+pub body-whole : (b : List ℕ) → IsOnePacket b → body_at b ≡ drop 20 b
 body-whole b one =
     let size : len_at b ≡ length (drop 20 b) = omega (arith, one.1, length-drop 20 b) in
     ap (λ n. take n (drop 20 b)) size ∙ take-length (drop 20 b)
@@ -77,7 +77,7 @@ read-spells b h v bytes one early at id flags dev cmd means =
       means = means;
     }
 
-late-is : (b : List ℕ) (h : Header) → IsOnePacket b → IsHeaderAt h b → body_cause h.cmd (bit h.flags 1) (drop 20 b) ≡ late_refusal b
+pub late-is : (b : List ℕ) (h : Header) → IsOnePacket b → IsHeaderAt h b → body_cause h.cmd (bit h.flags 1) (drop 20 b) ≡ late_refusal b
 unfolding late_refusal
 late-is b h one at =
     ap (λ c. body_cause c (bit h.flags 1) (drop 20 b)) (sym (command_of-number h.cmd) ∙ ap command_of at.cmd_is)

@@ -1,12 +1,11 @@
 -- How the bytes of a packet spell its value, as equations on the whole list; the canonical spelling; and which values have one.
-use Rattle.std.specs.Prelude.{◌≡◌, ℕ, ◌+◌, ◌*◌, ◌^◌, ◌<◌, ◌≤◌, Bool, true, false, nat_lt, min, if◌then◌else◌, List, [], ◌++◌, length, Option, Some, None}
+use Rattle.std.specs.Prelude.{◌≡◌, ℕ, ◌+◌, ◌*◌, ◌^◌, ◌<◌, ◌≤◌, Bool, nat_lt, min, if◌then◌else◌, List, [], ◌++◌, length, Option, Some, None}
 use Rattle.cosim_model.specs.Packets.{Packet, Body, BusFields, cmd_of, carries, is_extended}
 use Rattle.cosim_model.specs.Packets.Body.{Nop, Hello, Cfg, Read, Write, Interrupt, Sync}
-use Rattle.rp_header.specs.Numbers.{IsFieldAt}
 use Rattle.rp_header.specs.Headers.{header_bytes}
-use Rattle.rp_control.specs.Controls.{AreWords, IsHello, IsCfg, IsInterrupt, IsSync, hello_bytes, cfg_bytes, interrupt_bytes, sync_bytes}
+use Rattle.rp_control.specs.Controls.{AreWords, IsHello, IsTightHello, IsCfg, IsInterrupt, IsSync, hello_bytes, cfg_bytes, interrupt_bytes, sync_bytes}
 use Rattle.rp_busaccess.specs.Buses.{IsBus}
-use Rattle.rp_busaccess.specs.Writing.{bus_bytes, bus_size, enables_place, write_fault}
+use Rattle.rp_busaccess.specs.Writing.{bus_bytes, IsTightBus, write_fault}
 use Rattle.rp_busaccess.specs.declared.fault.WriteFault.{WriteFault}
 use Rattle.rp_busaccess.specs.declared.fault.WriteFault.TheVariants.{TooLong}
 
@@ -31,13 +30,9 @@ pub record Spells (v : Packet) (b : List ℕ) : Type 0 where
   pub means : IsBodyOf (carries v) v.body body
 
 -- A tight body has no unused bytes, zeros in its fields without meaning, and its parts in order right behind the fields.
-abbrev pub IsTightBus : Bool → BusFields → List ℕ → Type 0
-IsTightBus true f body = IsFieldAt 64 4 80 body × IsFieldAt 68 4 0 body × IsFieldAt 72 4 (enables_place f) body × (length body ≡ bus_size f)
-IsTightBus false f body = length body ≡ bus_size f
-
 abbrev pub IsTight : Body → List ℕ → Type 0
 IsTight Nop body = body ≡ []
-IsTight (Hello major minor caps) body = IsFieldAt 24 4 32 body × IsFieldAt 30 2 0 body × (length body ≡ 12 + 4 * length caps)
+IsTight (Hello major minor caps) body = IsTightHello caps body
 IsTight (Cfg opt set) body = length body ≡ 5
 IsTight (Read f) body = IsTightBus (is_extended f) f body
 IsTight (Write f) body = IsTightBus (is_extended f) f body

@@ -10,6 +10,7 @@ use Rattle.rp_header.specs.NumberLaws.{AreBytes-drop}
 use Rattle.rp_packet.specs.declared.fault.Cause.{Cause}
 use Rattle.rp_packet.specs.Spelling.{Spells}
 use Rattle.rp_packet.specs.Refusals.{place_of, len_at, early_refusal, late_refusal, value_in, judged, first}
+use Rattle.rp_packet.specs.PacketLaws.{one-fault}
 use Rattle.rp_packet.specs.ReadingLaws.{Spells-value_in}
 use Rattle.rp_packet.specs.Streams.{Unfinished, Refuses, Bad, Spelled, Spelled_none, Spelled_one, Stream, Faulty, IsStream, IsFaulty}
 use Rattle.rp_packet.specs.StreamLaws.{Stage, Early, Whole, Waiting, stage-of, same-some, first-early, first-whole, first-unfinished, first-spelled}
@@ -84,19 +85,12 @@ one-stream b vs ws rest other is also =
 same-malformed : (cause another : Cause) (m n : ℕ) → ◌≡◌ {A = Option (Decoded Cause × ℕ)} (Some (Malformed cause, m)) (Some (Malformed another, n)) → cause ≡ another
 same-malformed cause another m n e = same-refusal cause another (same-answer (Malformed cause) (Malformed another) m n e).0
 
-same-cause : (b : List ℕ) (place other : ℕ) (cause another : Cause) → Bad b place cause → Bad b other another → (place ≡ other) × (cause ≡ another)
-same-cause b place other cause another is also =
-    let bad = first-bad b place cause is in
-    let too = first-bad b other another also in
-    let e : cause ≡ another = same-malformed cause another bad.0 too.0 (sym bad.1 ∙ too.1) in
-    (is.at ∙ ap place_of e ∙ sym also.at, e)
-
 pub one-faulty : (b : List ℕ) (vs ws : List Packet) (start other place place2 : ℕ) (cause another : Cause) → Faulty vs b start place cause → Faulty ws b other place2 another →
     (vs ≡ ws) × (start ≡ other) × (place ≡ place2) × (cause ≡ another)
 one-faulty b vs ws start other place place2 cause another is also =
     let walk = one-walk is.spelled also.spelled is.rest also.rest (Ends-bad is.rest place cause is.bad) (Ends-bad also.rest place2 another also.bad) (sym is.whole ∙ also.whole) in
-    let same = same-cause is.rest place place2 cause another is.bad (subst (λ (r : List ℕ). Bad r place2 another) (sym walk.rests) also.bad) in
-    (walk.values, sym is.size ∙ walk.sizes ∙ also.size, same.0, same.1)
+    let same = one-fault is.rest place place2 cause another is.bad (subst (λ (r : List ℕ). Bad r place2 another) (sym walk.rests) also.bad) in
+    (walk.values, sym is.size ∙ walk.sizes ∙ also.size, is.bad.at ∙ ap place_of same ∙ sym also.bad.at, same)
 
 none-some : (b : List ℕ) (d : Decoded Cause) (n : ℕ) → first b ≡ None → first b ≡ Some (d, n) → ⊥
 none-some b d n nothing front = absurd (cc (sym nothing ∙ front))

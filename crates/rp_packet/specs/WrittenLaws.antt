@@ -17,7 +17,7 @@ use Rattle.rp_packet.specs.Spelling.{BusFits}
 use Rattle.rp_packet.specs.WritingLaws.{length-hello_bytes, length-start, length-more}
 
 -- a number in bytes stays where more follow
-more-behind : (place k n : ℕ) (b rest : List ℕ) → place + k ≤ length b → IsNumberAt place k n b → IsNumberAt place k n (b ++ rest)
+pub more-behind : (place k n : ℕ) (b rest : List ℕ) → place + k ≤ length b → IsNumberAt place k n b → IsNumberAt place k n (b ++ rest)
 more-behind place k n b rest within at = record {
   fits = at.fits;
   bytes = ap (take k) (drop-append-le place b rest (omega arith))
@@ -195,7 +195,7 @@ apart-written count offset enables (suc n) size is same at place = let p = place
 place-of-enables : (f : BusFields) → 0 < length f.enables → enables_place f ≡ 80 + length f.payload
 place-of-enables f some = ap (λ t. if t then 0 else 80 + length f.payload) (some-test (length f.enables) some)
 
-enables-place-lt : (f : BusFields) → 60 + length f.payload + length f.enables ≤ 65536 → enables_place f < 2 ^ 32
+pub enables-place-lt : (f : BusFields) → 60 + length f.payload + length f.enables ≤ 65536 → enables_place f < 2 ^ 32
 enables-place-lt f size = choice-lt (nat_eq (length f.enables) 0) (length f.payload) (omega arith)
 
 pub extended-written : (carries : Bool) (f : BusFields) → is_extended f ≡ true → BusFits f → length f.payload ≡ data_count carries f → 60 + length f.payload + length f.enables ≤ 65536 →

@@ -1,9 +1,12 @@
-ghost use Rattle.std.specs.Prelude.{◌≡◌, ◌⊎◌, ◌∷◌, ◌++◌, List, ℕ, [], take, Some, None};
+ghost use Rattle.std.specs.Prelude.{◌≡◌, ◌⊎◌, ◌∷◌, ◌++◌, List, ℕ, [], take, Some, None, Result, OnOk};
 ghost use Rattle.cosim_model.specs.Packets.{Packet as PacketValue, IsCodec};
 ghost use Rattle.cosim_model.specs.Packets.Decoded.{Valid, Malformed};
 ghost use Rattle.rp_header.specs.Numbers.{AreBytes};
 ghost use Rattle.rp_packet.specs.declared.fault.Cause.{Cause};
-ghost use Rattle.rp_packet.specs.Spelling.{Spells, Fits, Writable, packet_bytes};
+ghost use Rattle.rp_packet.specs.Spelling.{Spells, Canonical, Fits, Writable, packet_bytes, packet_fault};
+ghost use Rattle.cos_base.specs.Octets.{Held};
+ghost use Rattle.rp_busaccess.specs.declared.fault.WriteFault.{WriteFault};
+ghost use Rattle.rp_packet.specs.Writing.{Writes};
 ghost use Rattle.rp_packet.specs.Refusals.{first, place_of};
 ghost use Rattle.rp_packet.specs.Streams.{Unfinished, Bad, Spelled, Stream, Faulty, IsStream, IsFaulty};
 
@@ -36,6 +39,17 @@ pub fn taken_from_the_front()
 /// is read as that value again.
 pub fn one_writing()
     ensures { (v : PacketValue) → Fits v → Writable v → Spells v (packet_bytes v) }
+{}
+
+/// A value has one canonical spelling at most: what is written for it, which is one wherever it can be written. So writing
+/// what was read from a canonical spelling appends these bytes again, and each value that was read can be written.
+pub fn one_canonical_spelling()
+    ensures written { (v : PacketValue) → Fits v → Writable v → Canonical v (packet_bytes v) }
+    ensures one { (v : PacketValue) (b : List ℕ) → AreBytes b → Canonical v b → b ≡ packet_bytes v }
+    ensures back { (v : PacketValue) (b : List ℕ) (old new : Held) (result : Result Unit WriteFault) → AreBytes b → Canonical v b →
+        Writes (packet_bytes v) (packet_fault v) old new result → OnOk result (new.bytes ≡ old.bytes ++ b) }
+    ensures fits { (v : PacketValue) (b : List ℕ) → Spells v b → Fits v }
+    ensures writable { (v : PacketValue) (b : List ℕ) → Spells v b → Writable v }
 {}
 
 /// The laws of a codec that the theorems on whole runs ask for: what is written is read back whatever follows it, it has the

@@ -2,6 +2,7 @@
 #![tactic(auto)]
 
 mod fault;
+mod judging;
 mod laws;
 mod packet;
 mod reading;
@@ -11,7 +12,11 @@ mod tests;
 mod writing;
 
 pub use fault::{Cause, PacketFault, ReadFault};
-pub use laws::{codec_laws, every_stream, one_reading, one_writing, taken_from_the_front};
+pub use judging::is_canonical;
+pub use laws::{
+    codec_laws, every_stream, one_canonical_spelling, one_reading, one_writing,
+    taken_from_the_front,
+};
 pub use packet::{Packet, Tag};
 pub use reading::packet_len;
 pub use rows::{FAULTS, FaultRows};

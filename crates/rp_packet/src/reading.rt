@@ -1,10 +1,12 @@
-ghost use Rattle.std.specs.Prelude.{◌≡◌, ◌⊎◌, ◌+◌, ◌≤◌, ℕ, OnOk, length, Some, None, IfOk, IfErr, MatchResult, Option};
+ghost use Rattle.std.specs.Prelude.{◌≡◌, ◌≢◌, ◌⊎◌, ◌+◌, ◌≤◌, ℕ, OnOk, length, Some, None, IfOk, IfErr, MatchResult, Option};
 ghost use Rattle.cosim_model.specs.Values.{bit};
 ghost use Rattle.cosim_model.specs.Packets.{Packet as PacketValue, cmd_of, carries};
 ghost use Rattle.rp_header.specs.Headers.{command_number};
 ghost use Rattle.rp_control.specs.Refusals.{IsRefusal as IsControlRefusal};
 ghost use Rattle.rp_busaccess.specs.Refusals.{IsRefusal as IsBusRefusal};
 ghost use Rattle.rp_control.specs.declared.fault.BodyFault.{BodyFault as ControlFault};
+ghost use Rattle.rp_control.specs.declared.fault.BodyFault.TheVariants.{NoMemory as ControlMemory};
+ghost use Rattle.rp_busaccess.specs.declared.fault.BusFault.TheVariants.{NoMemory as BusMemory};
 ghost use Rattle.rp_busaccess.specs.declared.fault.BusFault.{BusFault as AnyBusFault};
 ghost use Rattle.rp_packet.specs.declared.fault.Cause.{Cause as AnyCause};
 ghost use Rattle.rp_packet.specs.declared.fault.ReadFault.TheVariants.{Malformed, NoMemory as WantOfMemory};
@@ -55,7 +57,7 @@ pub fn packet_len(bytes: &[u8]) -> Result<usize, ReadFault>
 }
 
 /// The header that stands at the front.
-fn header_of(bytes: &[u8]) -> Result<Header, ReadFault>
+pub fn header_of(bytes: &[u8]) -> Result<Header, ReadFault>
     requires { 20 ≤ length bytes.now }
     ensures at { IfOk result (λ h. IsHeaderAt h bytes.now) }
     ensures lawful { IfOk result (λ h. early_refusal bytes.now ≡ None) }
@@ -99,8 +101,9 @@ fn malformed(cause: Cause) -> ReadFault
     })
 }
 
-fn control_fault(fault: BodyFault) -> ReadFault
-    ensures { (r : Option ControlFault) → IsControlRefusal fault r → IsBodyFault (control_cause r) result }
+pub fn control_fault(fault: BodyFault) -> ReadFault
+    ensures first { (r : Option ControlFault) → IsControlRefusal fault r → IsBodyFault (control_cause r) result }
+    ensures named { fault ≢ ControlMemory → IsEarlyFault (control_cause (Some fault)) result }
 {
     match fault {
         BodyFault::Length { wanted, got } => malformed(Cause::Length { wanted, got }),
@@ -109,8 +112,9 @@ fn control_fault(fault: BodyFault) -> ReadFault
     }
 }
 
-fn bus_fault(fault: BusFault) -> ReadFault
-    ensures { (r : Option AnyBusFault) → IsBusRefusal fault r → IsBodyFault (bus_cause r) result }
+pub fn bus_fault(fault: BusFault) -> ReadFault
+    ensures first { (r : Option AnyBusFault) → IsBusRefusal fault r → IsBodyFault (bus_cause r) result }
+    ensures named { fault ≢ BusMemory → IsEarlyFault (bus_cause (Some fault)) result }
 {
     match fault {
         BusFault::Length { wanted, got } => malformed(Cause::Length { wanted, got }),

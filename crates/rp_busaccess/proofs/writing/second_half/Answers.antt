@@ -1,4 +1,3 @@
-use Rattle.std.proofs.Common.{◌≡◌}
 use Rattle.rp_header.specs.Numbers.{be}
 use Rattle.rp_busaccess.proofs.writing.second_half.Goals as goal
 

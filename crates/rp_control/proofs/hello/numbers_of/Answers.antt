@@ -1,5 +1,4 @@
-use Rattle.std.proofs.Common.{◌≡◌, ◌∙◌, ◌+◌, ◌*◌, ◌∷◌, ◌++◌, [], ap, sym, suc, add-one, drop}
-use Rattle.rp_header.specs.Numbers.{number}
+use Rattle.std.proofs.Common.{◌∙◌, ◌∷◌, ◌++◌, [], ap, sym, add-one}
 use Rattle.rp_control.specs.Refusals.{numbers_in}
 use Rattle.rp_control.specs.ControlLaws.{numbers_in-more}
 use Rattle.rp_control.proofs.hello.numbers_of.Goals as goal

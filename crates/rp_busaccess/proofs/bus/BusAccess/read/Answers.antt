@@ -1,7 +1,7 @@
 use Rattle.std.proofs.Common.{◌≡◌, ◌∙◌, sym, subst, arith}
 use Rattle.cosim_model.specs.Values.{bit}
 use Rattle.cosim_model.specs.Packets.{BusFields}
-use Rattle.rp_header.specs.Numbers.{field, AreBytes}
+use Rattle.rp_header.specs.Numbers.{field}
 use Rattle.rp_busaccess.specs.Buses.{IsBus}
 use Rattle.rp_busaccess.specs.Bits.{fields_of}
 use Rattle.rp_busaccess.specs.Refusals.{fields_in}

@@ -1,6 +1,5 @@
-use Rattle.std.proofs.Common.{◌≡◌, ◌∙◌, ◌/◌, ap, sym, length, arith, List, ℕ}
-use Rattle.rp_header.specs.Numbers.{AreBytes}
-use Rattle.rp_control.specs.Refusals.{numbers_in, caps_in}
+use Rattle.std.proofs.Common.{◌≡◌, ◌∙◌, ◌/◌, ap, length, arith, List, ℕ}
+use Rattle.rp_control.specs.Refusals.{numbers_in}
 use Rattle.rp_control.specs.ControlLaws.{IsHello-there, IsHello-read}
 use Rattle.rp_control.proofs.hello.Hello.read.Goals as goal
 
