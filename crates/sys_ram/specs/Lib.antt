@@ -1,0 +1,4 @@
+pub mod Loads
+pub mod Memory
+pub mod MemoryLaws
+pub mod Pages
