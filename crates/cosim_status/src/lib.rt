@@ -1,0 +1,15 @@
+//! How a command ends, in words that every command shares: its status, the line that tells it, and what a command over files comes to.
+#![tactic(auto)]
+
+mod lines;
+mod status;
+mod steps;
+mod trial;
+
+pub use lines::tell_status;
+pub use status::{InputFault, Object, Status};
+pub use steps::{put_text, read_file, write_file};
+pub use trial::{copy, store};
+
+#[cfg(test)]
+mod tests;
