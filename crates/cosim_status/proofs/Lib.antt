@@ -1,3 +1,4 @@
 pub mod After
 pub mod Commands
 pub mod Putting
+pub mod Refusing

@@ -8,7 +8,7 @@ mod trial;
 
 pub use lines::tell_status;
 pub use status::{InputFault, Object, Status};
-pub use steps::{put_text, read_file, write_file};
+pub use steps::{put_before, put_text, read_file, write_file};
 pub use trial::{copy, store};
 
 #[cfg(test)]

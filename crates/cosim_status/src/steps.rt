@@ -1,6 +1,6 @@
 // The steps of a command: reading a file, printing a text, writing a file.
 ghost use Rattle.std.specs.Prelude.{◌≡◌, IfOk, IfErr};
-ghost use Rattle.cosim_status.specs.Outcomes.{seen};
+ghost use Rattle.cosim_status.specs.Outcomes.{seen, PrintsBefore};
 ghost use Rattle.cosim_status.specs.Steps.{IsRead, IsUnread, IsLacking, IsPrinted, IsRoomFor, IsWritten, BlamesNone};
 
 use crate::status::{Object, Status};
@@ -33,6 +33,19 @@ pub fn put_text<K: Sink>(out: &mut K, text: &[u8]) -> Status
             object: Object::Out,
             count: out.faults(),
         },
+    }
+}
+
+/// Prints the text that stands before a refusal, as far as `out` takes it. It takes no memory.
+pub fn put_before<K: Sink>(out: &mut K, text: &[u8])
+    ensures { PrintsBefore (seen K.count K.told out.old out.new) text.now }
+{
+    if text.is_empty() {
+        return;
+    }
+    match out.put(text) {
+        Ok(()) => {}
+        Err(Failed) => {}
     }
 }
 
