@@ -1,0 +1,10 @@
+pub mod Lists
+pub mod Bytes
+pub mod Firsts
+pub mod Units
+pub mod Serving
+pub mod Firsting
+pub mod Porting
+pub mod Ports
+pub mod Nexts
+pub mod Running

@@ -1,0 +1,6 @@
+pub mod Lanes
+pub mod Wants
+pub mod Runs
+pub mod Orders
+pub mod Outcomes
+pub mod Quanta

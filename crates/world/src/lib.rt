@@ -1,0 +1,17 @@
+//! Machines whole: a master and its devices, run from the first tick to the last.
+//!
+//! [`direct`] is the run without packets that every other run is measured against.
+#![tactic(auto)]
+
+mod bus;
+mod machine;
+pub mod outcome;
+mod parts;
+mod run;
+mod service;
+#[cfg(test)]
+mod tests;
+mod wants;
+
+pub use machine::{direct, direct_by_port};
+pub use parts::Parts;
