@@ -1,0 +1,34 @@
+use Rattle.std.proofs.Common.{◌≡◌, ℕ, [], ◌++◌, ◌+◌, ◌≤◌, take, min, length, refl, sym, ◌∙◌, ap, arith}
+use Rattle.hex.specs.Hex.{encode_lower}
+use Rattle.transcript.specs.Moves.{IsPiece}
+use Rattle.transcript.proofs.HexDigits.{encode_lower-step, encode_lower-none}
+use Rattle.transcript.proofs.Moving.{moved-nothing, moved-pushed, moved-stops, moved-text}
+use Rattle.transcript.proofs.putting.move_bytes.Goals as goal
+
+pub chunks-init : goal.chunks-init
+chunks-init g c =
+    (c.requires, ([], refl, moved-nothing g.K.Sink.told g.K.Sink.count g.K.Sink.room g.K.Sink.sound _ _))
+
+pub chunks-preserved : goal.chunks-preserved
+chunks-preserved g c =
+    let inv = c.chunks.invariant.1 in (
+      record { short = omega (arith, c.in-Ok.ensures.room, c.in-Ok.ensures.piece); room = omega (arith, c.in-Ok.ensures.piece) },
+      (
+        inv.0 ++ encode_lower c.split_at.result.0.now,
+        sym (encode_lower-step _ inv.0 c.chunks.rest.now _ _ _ c.split_at.ensures.front c.split_at.ensures.back (sym inv.1)),
+        moved-pushed g.K.Sink.told g.K.Sink.count g.K.Sink.room g.K.Sink.sound _ _ _ _ _ _ _ _ _ _
+        inv.2 c.in-Ok.ensures.moved c.push_hex.ensures.bytes refl,
+      ),
+    )
+
+pub returns-in-Err-clause-moved : goal.returns-in-Err-clause-moved
+returns-in-Err-clause-moved g c =
+    let inv = c.chunks.invariant.1 in
+    moved-stops g.K.Sink.told g.K.Sink.count g.K.Sink.room g.K.Sink.sound g.met.K.Sink.sound_tells _ _ _ _ _ _ _ _ _ _ _ _
+    inv.2 c.in-Err.ensures.moved inv.1
+
+pub returns-clause-moved : goal.returns-clause-moved
+returns-clause-moved g c =
+    let inv = c.chunks.invariant.1 in
+    moved-text g.K.Sink.told g.K.Sink.count g.K.Sink.room g.K.Sink.sound _ _ _ _ _ _ _
+    (sym (encode_lower-none inv.0 c.chunks.rest.now (omega (arith, c.chunks-test.false))) ∙ sym inv.1) inv.2
