@@ -1,4 +1,4 @@
-use Rattle.std.proofs.Common.{ℕ, ◌≡◌, ◌+◌, ◌-◌, ◌*◌, ◌/◌, ◌%◌, ◌^◌, ◌<◌, ◌≤◌, zero, suc, Bool, false, cond, List, [], ◌∷◌, ap, arith, eq-eqb, ◌∙◌, sym, subst, drop, length, set}
+use Rattle.std.proofs.Common.{ℕ, ◌≡◌, ◌+◌, ◌-◌, ◌/◌, ◌%◌, ◌^◌, ◌<◌, ◌≤◌, zero, suc, Bool, false, cond, List, [], ◌∷◌, ap, arith, eq-eqb, ◌∙◌, sym, subst, drop, length, set}
 use Rattle.std.proofs.Common.{◌++◌, append_assoc, take, refl}
 use Rattle.std.specs.Prelude.{slice_index}
 use Rattle.std.proofs.lemmas.List.{drop-set, take-append-drop, append-nil}
@@ -44,11 +44,11 @@ written-more number front (suc k) ds d long large low small is stands =
     let power : suc k + 1 ≡ suc (suc k) = omega arith in
     let fewer : front / 16 < 16 ^ (k + 1) = subst (λ n. front / 16 < 16 ^ n) one (below_power (suc k) front (subst (λ n. front < 16 ^ n) power small)) in
     let acc : digit_glyph false (front % 16) ∷ drop (suc k + 1) ds ≡ drop (k + 1) (set ds (suc k) d) =
-        ap (λ x. x ∷ drop (suc k + 1) ds) (sym is) ∙ sym (drop-set ds (suc k) d (omega arith)) ∙ ap (λ n. drop n (set ds (suc k) d)) one in
+    ap (λ x. x ∷ drop (suc k + 1) ds) (sym is) ∙ sym (drop-set ds (suc k) d (omega arith)) ∙ ap (λ n. drop n (set ds (suc k) d)) one in
     let more : Stands number (front / 16) k (set ds (suc k) d) =
-        stands ∙ ap (λ n. digits_onto n 16 false front (drop (suc k + 1) ds)) fuel
-        ∙ digits_onto-more (k + 49) front (drop (suc k + 1) ds) large
-        ∙ ap (λ l. digits_onto (k + 49) 16 false (front / 16) l) acc in
+    stands ∙ ap (λ n. digits_onto n 16 false front (drop (suc k + 1) ds)) fuel
+    ∙ digits_onto-more (k + 49) front (drop (suc k + 1) ds) large
+    ∙ ap (λ l. digits_onto (k + 49) 16 false (front / 16) l) acc in
     subst (λ n. (n ≤ 15) × (front / 16 < 16 ^ (n + 1)) × Stands number (front / 16) n (set ds (suc k) d)) (sym before) (omega arith, fewer, more)
 
 pub written-all : (number front at : ℕ) (ds : List ℕ) (d : ℕ) → length ds ≡ 16 → front < 16 → at ≤ 15 → d ≡ digit_glyph false front → Stands number front at ds
@@ -73,7 +73,7 @@ pub encode_lower-step : (n : ℕ) (done rest front back all : List ℕ) → fron
 encode_lower-step n done rest front back all fronts backs whole =
     append_assoc done (encode_lower front) (encode_lower back)
     ∙ ap (λ l. done ++ l)
-      (ap (λ l. encode_lower l ++ encode_lower back) fronts ∙ ap (λ l. encode_lower (take n rest) ++ encode_lower l) backs ∙ encode_lower-split n rest)
+    (ap (λ l. encode_lower l ++ encode_lower back) fronts ∙ ap (λ l. encode_lower (take n rest) ++ encode_lower l) backs ∙ encode_lower-split n rest)
     ∙ whole
 
 pub encode_lower-none : (done rest : List ℕ) → length rest ≤ 0 → done ++ encode_lower rest ≡ done

@@ -4,11 +4,11 @@ use Rattle.std.proofs.Common.{take, get_or, ◌∷◌}
 use Rattle.std.proofs.lemmas.List.{append-nil, take_more, take-append-drop}
 use Rattle.std.proofs.lemmas.List.Concat.{flat_map-append}
 use Rattle.std.specs.List.{flat_map}
-use Rattle.cos_base.specs.Counts.{Counts, Rises}
+use Rattle.cos_base.specs.Counts.{Rises}
 use Rattle.cos_base.specs.Prefixes.{IsPrefix, IsPrefix-front, IsPrefix-rest}
 use Rattle.cos_base.specs.Sinks.{Puts, written, PutsSoundly}
 use Rattle.cos_base.specs.declared.sinks.Failed.{Failed}
-use Rattle.transcript.specs.Moves.{Passes, Moves, MovesSoundly, Moved}
+use Rattle.transcript.specs.Moves.{Passes, Moved}
 
 -- nothing was put
 pub passes-nothing : (told : Option (List ℕ)) (held : List ℕ) → Passes told told held held []
@@ -19,8 +19,7 @@ passes-nothing (Some old) held = ([], append-nil held, ap (λ l. Some l) (sym (a
 pub passes-both : (a b c : Option (List ℕ)) (held mid now t u : List ℕ) → Passes a b held mid t → Passes b c mid now u → Passes a c held now (t ++ u)
 passes-both None b c held mid now t u first then = tt
 passes-both (Some old) b c held mid now t u (p, whole, is) then =
-    let second : Passes (Some (old ++ p)) c mid now u = subst (λ o. Passes o c mid now u) is then in
-    (
+    let second : Passes (Some (old ++ p)) c mid now u = subst (λ o. Passes o c mid now u) is then in (
       p ++ second.0,
       sym (append_assoc held t u) ∙ ap (λ l. l ++ u) whole ∙ append_assoc p mid u ∙ ap (λ l. p ++ l) second.1 ∙ sym (append_assoc p second.0 now),
       second.2 ∙ ap (λ l. Some l) (append_assoc old p second.0),
@@ -35,7 +34,7 @@ prefix-more : (p q mid part rest : List ℕ) → IsPrefix part mid → q ≡ p +
 prefix-more p q mid part rest fits is =
     let d = drop (length part) mid in
     let e : q ≡ (p ++ part) ++ (d ++ rest) =
-        is ∙ ap (λ l. p ++ (l ++ rest)) (IsPrefix-rest part mid fits) ∙ ap (λ l. p ++ l) (append_assoc part d rest) ∙ sym (append_assoc p part (d ++ rest)) in
+    is ∙ ap (λ l. p ++ (l ++ rest)) (IsPrefix-rest part mid fits) ∙ ap (λ l. p ++ l) (append_assoc part d rest) ∙ sym (append_assoc p part (d ++ rest)) in
     subst (λ l. IsPrefix (p ++ part) l) (sym e) (IsPrefix-front (p ++ part) (d ++ rest))
 
 part-of : (old p whole mid rest : List ℕ) (c : Option (List ℕ)) → whole ≡ p ++ (mid ++ rest)
@@ -49,7 +48,7 @@ passes-breaks None b c held mid t u rest e first then = tt
 passes-breaks (Some old) b c held mid t u rest e (p, whole, is) then =
     let second : Puts (Some (old ++ p)) c (mid ++ u) (Err e) = subst (λ o. Puts o c (mid ++ u) (Err e)) is then in
     let all : held ++ (t ++ (u ++ rest)) ≡ p ++ ((mid ++ u) ++ rest) =
-        sym (append_assoc held t (u ++ rest)) ∙ ap (λ l. l ++ (u ++ rest)) whole ∙ append_assoc p mid (u ++ rest) ∙ ap (λ l. p ++ l) (sym (append_assoc mid u rest)) in
+    sym (append_assoc held t (u ++ rest)) ∙ ap (λ l. l ++ (u ++ rest)) whole ∙ append_assoc p mid (u ++ rest) ∙ ap (λ l. p ++ l) (sym (append_assoc mid u rest)) in
     part-of old p (held ++ (t ++ (u ++ rest))) (mid ++ u) rest c all second
 
 -- the same of the room that was lacking
@@ -61,7 +60,7 @@ sound-breaks (Some old) b before now held mid t u rest some (p, whole, is) lower
     let front : length held + length t ≡ length p + length mid = sym (length-append held t) ∙ ap length whole ∙ length-append p mid in
     let next : length (mid ++ u) ≡ length mid + length u = length-append mid u in
     let all : length (held ++ (t ++ (u ++ rest))) ≡ length held + (length t + (length u + length rest)) =
-        length-append held (t ++ (u ++ rest)) ∙ ap (λ n. length held + n) (length-append t (u ++ rest) ∙ ap (λ n. length t + n) (length-append u rest)) in
+    length-append held (t ++ (u ++ rest)) ∙ ap (λ n. length held + n) (length-append t (u ++ rest) ∙ ap (λ n. length t + n) (length-append u rest)) in
     omega arith
 
 module _ {S : Type 0} (told : S → Option (List ℕ)) (count room : S → ℕ) (sound : S → Type 0) where
@@ -95,14 +94,14 @@ module _ {S : Type 0} (told : S → Option (List ℕ)) (count room : S → ℕ) 
     counts = subst (λ n. Rises n (count c)) first.counts then.counts;
     tells = passes-breaks (told a) (told b) (told c) held mid t u rest e first.tells then.tells;
     is_sound = λ is.
-      let s = first.is_sound is in
-      let r = then.is_sound s.0 in (
-        r.0,
-        record {
-          cause = sound-breaks (told a) (told b) (room a) (room b) held mid t u rest (tells a is) first.tells s.1.lowers r.1.cause;
-          lowers = r.1.lowers ∙ s.1.lowers;
-        },
-      );
+        let s = first.is_sound is in
+        let r = then.is_sound s.0 in (
+          r.0,
+          record {
+            cause = sound-breaks (told a) (told b) (room a) (room b) held mid t u rest (tells a is) first.tells s.1.lowers r.1.cause;
+            lowers = r.1.lowers ∙ s.1.lowers;
+          },
+        );
   }
 
   pub moved-text : (a b : S) (held now t u : List ℕ) (r : Result Unit Failed) → t ≡ u → Move a b held now t r → Move a b held now u r

@@ -66,5 +66,5 @@ HasLine (call.Served tick port due w r) = IsShort w × (r.size ≤ 64)
 
 -- What a call's line has at most, in bytes.
 abbrev pub call_room : Call → ℕ
-call_room (call.Access tick port a x) = 160
-call_room (call.Served tick port due w r) = 350
+call_room (call.Access tick port a x) = 137
+call_room (call.Served tick port due w r) = 296

@@ -1,5 +1,5 @@
 -- What becomes of a text that goes to a sink through a piece: what was put of it, and what of it the piece holds.
-use Rattle.std.specs.Prelude.{◌≡◌, ℕ, ◌+◌, ◌<◌, ◌≤◌, List, [], ◌++◌, length, MatchResult, IsSome, Option, Some, None, Result, Ok, Err}
+use Rattle.std.specs.Prelude.{◌≡◌, ℕ, ◌+◌, ◌<◌, ◌≤◌, List, ◌++◌, length, MatchResult, Option, Some, None, Result, Ok, Err}
 use Rattle.cos_base.specs.Counts.{Counts}
 use Rattle.cos_base.specs.Octets.{Held}
 use Rattle.cos_base.specs.Sinks.{Puts, written}

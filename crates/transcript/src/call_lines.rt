@@ -1,82 +1,110 @@
 // The lines of calls.
 ghost use Rattle.std.specs.Prelude.{◌≡◌, ◌+◌, ◌≤◌, ◌++◌, length, OnOk, OnErr};
-ghost use Rattle.transcript.specs.CallLines.{access_line, shown_bytes, call_text, HasLine, call_room};
+ghost use Rattle.transcript.specs.CallLines.{read_line, write_line, post_line, access_line, shown_bytes, call_text, HasLine, call_room};
 
 use crate::pieces::Piece;
 use cos_base::{NoMemory, Octets};
 use cosim_model::{Access, Answer, Call, Reply, Want};
 
 /// What an access's line has at most, in bytes.
-pub const ACCESS_ROOM: usize = 160;
+pub const ACCESS_ROOM: usize = 137;
 
 /// What the line of a served want has at most, in bytes.
-pub const SERVED_ROOM: usize = 350;
+pub const SERVED_ROOM: usize = 296;
 
 /// What a fetch shows that wasn't served.
 const ZEROS: [u8; 64] = [0; 64];
 
-/// Appends the line of an access.
-fn push_access(out: &mut Octets, tick: u64, port: u32, access: Access, answer: Answer)
+/// Appends the line of a read.
+fn push_read(out: &mut Octets, tick: u64, port: u32, access: &Access, answer: &Answer)
     requires { ACCESS_ROOM ≤ out.old.spare }
-    ensures bytes { out.new.bytes ≡ out.old.bytes ++ access_line access.write access.posted tick port access answer }
+    ensures bytes { out.new.bytes ≡ out.old.bytes ++ read_line tick port access.now answer.now }
     ensures spare { out.old.spare ≤ out.new.spare + ACCESS_ROOM }
     ensures room { length out.new.bytes + out.new.spare ≡ length out.old.bytes + out.old.spare }
 {
-    if !access.write {
-        Piece::push_all(
-            out,
-            &[
-                Piece::Text("@"),
-                Piece::Decimal(tick),
-                Piece::Text(" p"),
-                Piece::Decimal(u64::from(port)),
-                Piece::Text(" read 0x"),
-                Piece::Hexadecimal(access.addr),
-                Piece::Text("+"),
-                Piece::Decimal(u64::from(access.size)),
-                Piece::Text(" = 0x"),
-                Piece::Hexadecimal(answer.value),
-                Piece::Text(" code "),
-                Piece::Decimal(u64::from(answer.code)),
-                Piece::Text("\n"),
-            ],
-        );
-    } else if !access.posted {
-        Piece::push_all(
-            out,
-            &[
-                Piece::Text("@"),
-                Piece::Decimal(tick),
-                Piece::Text(" p"),
-                Piece::Decimal(u64::from(port)),
-                Piece::Text(" write 0x"),
-                Piece::Hexadecimal(access.addr),
-                Piece::Text("+"),
-                Piece::Decimal(u64::from(access.size)),
-                Piece::Text(" = 0x"),
-                Piece::Hexadecimal(access.value),
-                Piece::Text(" code "),
-                Piece::Decimal(u64::from(answer.code)),
-                Piece::Text("\n"),
-            ],
-        );
-    } else {
-        Piece::push_all(
-            out,
-            &[
-                Piece::Text("@"),
-                Piece::Decimal(tick),
-                Piece::Text(" p"),
-                Piece::Decimal(u64::from(port)),
-                Piece::Text(" post 0x"),
-                Piece::Hexadecimal(access.addr),
-                Piece::Text("+"),
-                Piece::Decimal(u64::from(access.size)),
-                Piece::Text(" = 0x"),
-                Piece::Hexadecimal(access.value),
-                Piece::Text("\n"),
-            ],
-        );
+    Piece::push_all(
+        out,
+        &[
+            Piece::Text("@"),
+            Piece::Decimal(tick),
+            Piece::Text(" p"),
+            Piece::Decimal(u64::from(port)),
+            Piece::Text(" read 0x"),
+            Piece::Hexadecimal(access.addr),
+            Piece::Text("+"),
+            Piece::Decimal(u64::from(access.size)),
+            Piece::Text(" = 0x"),
+            Piece::Hexadecimal(answer.value),
+            Piece::Text(" code "),
+            Piece::Decimal(u64::from(answer.code)),
+            Piece::Text("\n"),
+        ],
+    );
+}
+
+/// Appends the line of a write that is answered.
+fn push_write(out: &mut Octets, tick: u64, port: u32, access: &Access, answer: &Answer)
+    requires { ACCESS_ROOM ≤ out.old.spare }
+    ensures bytes { out.new.bytes ≡ out.old.bytes ++ write_line tick port access.now answer.now }
+    ensures spare { out.old.spare ≤ out.new.spare + ACCESS_ROOM }
+    ensures room { length out.new.bytes + out.new.spare ≡ length out.old.bytes + out.old.spare }
+{
+    Piece::push_all(
+        out,
+        &[
+            Piece::Text("@"),
+            Piece::Decimal(tick),
+            Piece::Text(" p"),
+            Piece::Decimal(u64::from(port)),
+            Piece::Text(" write 0x"),
+            Piece::Hexadecimal(access.addr),
+            Piece::Text("+"),
+            Piece::Decimal(u64::from(access.size)),
+            Piece::Text(" = 0x"),
+            Piece::Hexadecimal(access.value),
+            Piece::Text(" code "),
+            Piece::Decimal(u64::from(answer.code)),
+            Piece::Text("\n"),
+        ],
+    );
+}
+
+/// Appends the line of a posted write.
+fn push_post(out: &mut Octets, tick: u64, port: u32, access: &Access)
+    requires { ACCESS_ROOM ≤ out.old.spare }
+    ensures bytes { out.new.bytes ≡ out.old.bytes ++ post_line tick port access.now }
+    ensures spare { out.old.spare ≤ out.new.spare + ACCESS_ROOM }
+    ensures room { length out.new.bytes + out.new.spare ≡ length out.old.bytes + out.old.spare }
+{
+    Piece::push_all(
+        out,
+        &[
+            Piece::Text("@"),
+            Piece::Decimal(tick),
+            Piece::Text(" p"),
+            Piece::Decimal(u64::from(port)),
+            Piece::Text(" post 0x"),
+            Piece::Hexadecimal(access.addr),
+            Piece::Text("+"),
+            Piece::Decimal(u64::from(access.size)),
+            Piece::Text(" = 0x"),
+            Piece::Hexadecimal(access.value),
+            Piece::Text("\n"),
+        ],
+    );
+}
+
+/// Appends the line of an access.
+fn push_access(out: &mut Octets, tick: u64, port: u32, access: &Access, answer: &Answer)
+    requires { ACCESS_ROOM ≤ out.old.spare }
+    ensures bytes { out.new.bytes ≡ out.old.bytes ++ access_line access.now.write access.now.posted tick port access.now answer.now }
+    ensures spare { out.old.spare ≤ out.new.spare + ACCESS_ROOM }
+    ensures room { length out.new.bytes + out.new.spare ≡ length out.old.bytes + out.old.spare }
+{
+    match (access.write, access.posted) {
+        (false, _) => push_read(out, tick, port, access, answer),
+        (true, false) => push_write(out, tick, port, access, answer),
+        (true, true) => push_post(out, tick, port, access),
     }
 }
 
@@ -85,7 +113,11 @@ fn shown(reply: &Reply) -> &[u8]
     requires { reply.now.size ≤ 64 }
     ensures { result.now ≡ shown_bytes reply.now }
 {
-    let bytes = if reply.code == 0 { &reply.bytes } else { &ZEROS };
+    let bytes = if reply.code == 0 {
+        &reply.bytes
+    } else {
+        &ZEROS
+    };
     let (shown, _) = bytes.split_at(usize::from(reply.size));
     shown
 }
@@ -135,7 +167,15 @@ impl Served {
     }
 
     /// Appends the line of a store.
-    fn push_store(self, out: &mut Octets, addr: u64, size: u8, bytes: &[u8; 64], mask: u64, reply: &Reply)
+    fn push_store(
+        self,
+        out: &mut Octets,
+        addr: u64,
+        size: u8,
+        bytes: &[u8; 64],
+        mask: u64,
+        reply: &Reply,
+    )
         requires few { size ≤ 64 }
         requires room { SERVED_ROOM ≤ out.old.spare }
         ensures bytes { out.new.bytes ≡ out.old.bytes ++ want_line self.tick self.port self.due (Store addr size bytes.now mask) reply.now }
@@ -237,7 +277,7 @@ pub fn push_call(out: &mut Octets, call: &Call)
             port,
             access,
             answer,
-        } => push_access(out, *tick, *port, *access, *answer),
+        } => push_access(out, *tick, *port, access, answer),
         Call::Served {
             tick,
             port,

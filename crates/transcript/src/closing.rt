@@ -117,10 +117,7 @@ pub fn push_out_head(out: &mut Octets, uart: &Out)
 {
     Piece::push_all(
         out,
-        &[
-            Piece::Text("out p"),
-            Piece::Decimal(u64::from(uart.port)),
-        ],
+        &[Piece::Text("out p"), Piece::Decimal(u64::from(uart.port))],
     );
     match uart.bytes.as_slice() {
         [] => {}

@@ -5,14 +5,11 @@
 #![tactic(auto)]
 
 mod call_lines;
-
 mod closing;
 mod ending;
 mod pieces;
 mod putting;
 mod sent;
-
-
 
 pub use call_lines::call_line;
 pub use closing::closing_lines;

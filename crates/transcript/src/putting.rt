@@ -163,8 +163,7 @@ pub fn put_lines<K: Sink>(
         Err(Failed) => return Err(Failed),
     }
     match move_closing(end, piece, out) {
-        Ok(()) => {}
-        Err(Failed) => return Err(Failed),
+        Ok(()) => put_piece(piece, out),
+        Err(Failed) => Err(Failed),
     }
-    put_piece(piece, out)
 }

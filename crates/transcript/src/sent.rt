@@ -13,7 +13,9 @@ fn byte_in(port: u32, call: &Call) -> Option<u8>
 {
     match call {
         Call::Access {
-            port: to, access, ..
+            port: to,
+            access,
+            ..
         } if *to == port && access.write && access.size == 4 && access.addr == 0 => {
             Some((access.value % 256) as u8)
         }

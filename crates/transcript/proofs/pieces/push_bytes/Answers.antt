@@ -5,8 +5,8 @@ use Rattle.transcript.proofs.pieces.push_bytes.Goals as goal
 
 pub chunks-preserved : goal.chunks-preserved
 chunks-preserved c = (
-      ap (λ l. l ++ encode_lower c.split_at.result.1.now) c.push_hex.ensures.bytes
+  ap (λ l. l ++ encode_lower c.split_at.result.1.now) c.push_hex.ensures.bytes
       ∙ encode_lower-step 64 c.chunks.out.bytes c.chunks.rest.now _ _ _ c.split_at.ensures.front c.split_at.ensures.back c.chunks.invariant.0,
-      omega arith,
-      omega arith,
-    )
+  omega arith,
+  omega arith,
+)

@@ -1,8 +1,6 @@
-use Rattle.std.proofs.Common.{◌≡◌, ◌+◌, ◌-◌, ◌/◌, ◌%◌, ◌^◌, ◌<◌, ◌≤◌, ◌++◌, suc, false, List, ℕ, ◌∷◌, drop, length, length-set, refl, ap, sym, ◌∙◌, arith}
-use Rattle.std.proofs.lemmas.List.{drop-set}
-use Rattle.std.specs.Fmt.{digits, digits_onto, digit_glyph}
-use Rattle.transcript.specs.Texts.{hexadecimal}
-use Rattle.transcript.proofs.HexDigits.{digits_onto-more, digits_onto-one, below_power, large_has_digits, written-more, written-all}
+use Rattle.std.proofs.Common.{◌++◌, length-set, refl, ap, sym, ◌∙◌, arith}
+use Rattle.std.specs.Fmt.{digits}
+use Rattle.transcript.proofs.HexDigits.{written-more, written-all}
 use Rattle.transcript.proofs.pieces.push_number.Goals as goal
 
 pub digits-init : goal.digits-init

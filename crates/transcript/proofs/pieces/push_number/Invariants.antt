@@ -1,4 +1,4 @@
-use Rattle.std.proofs.Common.{◌+◌, ◌-◌, ◌≡◌, ◌<◌, ◌≤◌, ◌^◌, false, drop, length}
+use Rattle.std.proofs.Common.{◌+◌, ◌≡◌, ◌<◌, ◌≤◌, ◌^◌, false, drop, length}
 use Rattle.std.specs.Fmt.{digits_onto}
 use Rattle.transcript.specs.Texts.{hexadecimal}
 use Rattle.transcript.proofs.pieces.push_number.Given as goal

@@ -1,6 +1,5 @@
-use Rattle.std.proofs.Common.{◌≡◌, ℕ, [], ◌++◌, ◌+◌, ◌≤◌, take, min, length, refl, sym, ◌∙◌, ap, arith}
+use Rattle.std.proofs.Common.{[], ◌++◌, refl, sym, ◌∙◌, arith}
 use Rattle.hex.specs.Hex.{encode_lower}
-use Rattle.transcript.specs.Moves.{IsPiece}
 use Rattle.transcript.proofs.HexDigits.{encode_lower-step, encode_lower-none}
 use Rattle.transcript.proofs.Moving.{moved-nothing, moved-pushed, moved-stops, moved-text}
 use Rattle.transcript.proofs.putting.move_bytes.Goals as goal
@@ -17,7 +16,7 @@ chunks-preserved g c =
         inv.0 ++ encode_lower c.split_at.result.0.now,
         sym (encode_lower-step _ inv.0 c.chunks.rest.now _ _ _ c.split_at.ensures.front c.split_at.ensures.back (sym inv.1)),
         moved-pushed g.K.Sink.told g.K.Sink.count g.K.Sink.room g.K.Sink.sound _ _ _ _ _ _ _ _ _ _
-        inv.2 c.in-Ok.ensures.moved c.push_hex.ensures.bytes refl,
+            inv.2 c.in-Ok.ensures.moved c.push_hex.ensures.bytes refl,
       ),
     )
 

@@ -1,7 +1,5 @@
-use Rattle.std.proofs.Common.{take, drop, get_or, refl, length, arith, ◌+◌, ◌<◌}
-use Rattle.std.specs.List.{flat_map}
+use Rattle.std.proofs.Common.{arith}
 use Rattle.transcript.specs.CallLines.{call_text}
-use Rattle.transcript.specs.Moves.{IsPiece}
 use Rattle.transcript.proofs.Moving.{moved-pushed, moved-stops, flat_map-split, flat_map-next}
 use Rattle.transcript.proofs.putting.move_calls.Goals as goal
 
@@ -16,5 +14,5 @@ loop-call-preserved g c =
     let i = c.loop-call.call-index in (
       record { short = omega (arith, c.in-Ok.ensures.room, c.in-Ok.ensures.piece); room = omega (arith, c.in-Ok.ensures.piece) },
       moved-pushed g.K.Sink.told g.K.Sink.count g.K.Sink.room g.K.Sink.sound _ _ _ _ _ _ _ _ _ _
-      c.loop-call.invariant.1 c.in-Ok.ensures.moved c.push_call.ensures.bytes (flat_map-next call_text i c.args.calls.now _ c.loop-call-test.true),
+          c.loop-call.invariant.1 c.in-Ok.ensures.moved c.push_call.ensures.bytes (flat_map-next call_text i c.args.calls.now _ c.loop-call-test.true),
     )

@@ -1,5 +1,3 @@
-use Rattle.std.proofs.Common.{take, drop, ◌∙◌, ap, ◌++◌}
-use Rattle.std.specs.List.{flat_map}
 use Rattle.transcript.specs.ClosingLines.{out_line}
 use Rattle.transcript.proofs.Moving.{moved-then, moved-stops, flat_map-rest-item, flat_map-next-item}
 use Rattle.transcript.proofs.putting.move_outs.Goals as goal
@@ -15,5 +13,5 @@ loop-uart-preserved g c =
     let i = c.loop-uart.uart-index in (
       c.in-Ok.ensures.piece,
       moved-then g.K.Sink.told g.K.Sink.count g.K.Sink.room g.K.Sink.sound _ _ _ _ _ _ _ _ _
-      c.loop-uart.invariant.1 c.in-Ok.ensures.moved (flat_map-next-item out_line i c.args.uarts.now c.uart-item.result c.loop-uart-test.true c.uart-item.is),
+          c.loop-uart.invariant.1 c.in-Ok.ensures.moved (flat_map-next-item out_line i c.args.uarts.now c.uart-item.result c.loop-uart-test.true c.uart-item.is),
     )

@@ -1,4 +1,4 @@
-use Rattle.std.proofs.Common.{◌++◌, Ok, Err, refl, ap, sym, subst}
+use Rattle.std.proofs.Common.{◌++◌, Err, ap, sym, subst}
 use Rattle.std.specs.List.{flat_map}
 use Rattle.cos_base.specs.Sinks.{Puts, PutsSoundly}
 use Rattle.transcript.specs.CallLines.{call_text}
@@ -9,23 +9,23 @@ use Rattle.transcript.proofs.putting.put_lines.Goals as goal
 pub returns-in-Err-move_closing-clause-tells : goal.returns-in-Err-move_closing-clause-tells
 returns-in-Err-move_closing-clause-tells g c =
     let whole = moved-rest g.K.Sink.told g.K.Sink.count g.K.Sink.room g.K.Sink.sound g.met.K.Sink.sound_tells _ _ _ _ _ _ _ _ (run_text c.args.calls.now.calls c.args.end.now) _
-        c.in-Ok.ensures.moved c.in-Err-move_closing.ensures.moved (ap (λ l. flat_map call_text l ++ closing_text c.args.end.now) (sym c.as_slice.ensures)) in
+    c.in-Ok.ensures.moved c.in-Err-move_closing.ensures.moved (ap (λ l. flat_map call_text l ++ closing_text c.args.end.now) (sym c.as_slice.ensures)) in
     subst (λ h. Puts (g.K.Sink.told c.args.out.now) (g.K.Sink.told c.move_closing.new.out) (h ++ run_text c.args.calls.now.calls c.args.end.now) (Err (record {}))) c.requires.empty whole.tells
 
-pub returns-clause-tells : goal.returns-clause-tells
-returns-clause-tells g c =
+pub returns-in-Ok-move_closing-clause-tells : goal.returns-in-Ok-move_closing-clause-tells
+returns-in-Ok-move_closing-clause-tells g c =
     let whole = moved-rest g.K.Sink.told g.K.Sink.count g.K.Sink.room g.K.Sink.sound g.met.K.Sink.sound_tells _ _ _ _ _ _ _ _ (run_text c.args.calls.now.calls c.args.end.now) _
-        c.in-Ok.ensures.moved c.in-Ok-move_closing.ensures.moved (ap (λ l. flat_map call_text l ++ closing_text c.args.end.now) (sym c.as_slice.ensures)) in
+    c.in-Ok.ensures.moved c.in-Ok-move_closing.ensures.moved (ap (λ l. flat_map call_text l ++ closing_text c.args.end.now) (sym c.as_slice.ensures)) in
     subst (λ h. Puts (g.K.Sink.told c.args.out.now) (g.K.Sink.told c.put_piece.new.out) (h ++ run_text c.args.calls.now.calls c.args.end.now) c.put_piece.result) c.requires.empty
     (puts-last _ _ _ _ _ _ _ whole.tells c.put_piece.ensures.tells)
 
-pub returns-clause-is_sound : goal.returns-clause-is_sound
-returns-clause-is_sound g c = λ is.
+pub returns-in-Ok-move_closing-clause-is_sound : goal.returns-in-Ok-move_closing-clause-is_sound
+returns-in-Ok-move_closing-clause-is_sound g c = λ is.
     let whole = moved-rest g.K.Sink.told g.K.Sink.count g.K.Sink.room g.K.Sink.sound g.met.K.Sink.sound_tells _ _ _ _ _ _ _ _ (run_text c.args.calls.now.calls c.args.end.now) _
-        c.in-Ok.ensures.moved c.in-Ok-move_closing.ensures.moved (ap (λ l. flat_map call_text l ++ closing_text c.args.end.now) (sym c.as_slice.ensures)) in
+    c.in-Ok.ensures.moved c.in-Ok-move_closing.ensures.moved (ap (λ l. flat_map call_text l ++ closing_text c.args.end.now) (sym c.as_slice.ensures)) in
     let before = whole.is_sound is in
     let last = c.put_piece.ensures.is_sound before.0 in (
       last.0,
       subst (λ h. PutsSoundly (g.K.Sink.told c.args.out.now) (g.K.Sink.told c.put_piece.new.out) (g.K.Sink.room c.args.out.now) (g.K.Sink.room c.put_piece.new.out) (h ++ run_text c.args.calls.now.calls c.args.end.now) c.put_piece.result) c.requires.empty
-      (sound-last _ _ _ _ _ _ _ _ _ _ (g.met.K.Sink.sound_tells _ is) whole.tells before.1.lowers last.1),
+          (sound-last _ _ _ _ _ _ _ _ _ _ (g.met.K.Sink.sound_tells _ is) whole.tells before.1.lowers last.1),
     )
