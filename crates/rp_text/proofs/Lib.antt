@@ -1,2 +1,9 @@
 pub mod Hexadecimal
 pub mod Puts
+pub mod Digits
+pub mod Cuts
+pub mod Takes
+pub mod Decoded
+pub mod Caps
+pub mod Bodies
+pub mod Named

@@ -1,2 +1,4 @@
 pub mod Texts
 pub mod Rooms
+pub mod Words
+pub mod Reading

@@ -15,10 +15,17 @@
 //! zeros. Data and enables are two lower-case hexadecimal digits a byte, or `-` where there are none.
 #![tactic(auto)]
 
+mod decoding;
+mod fault;
 mod hex_text;
+mod numerals;
 mod printing;
+mod reading;
 #[cfg(test)]
 mod tests;
+mod words_in;
 mod words_out;
 
+pub use fault::LineFault;
 pub use printing::packet_line;
+pub use reading::read_line;
