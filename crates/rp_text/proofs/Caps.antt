@@ -20,9 +20,9 @@ words-nil = record { each = λ i. omega arith }
 words-cons : (n : ℕ) (ns : List ℕ) → n < 2 ^ 32 → AreWords ns → AreWords (n ∷ ns)
 words-cons n ns small rest = record { each = each-cons n ns small rest.each }
   where
-  each-cons : (n : ℕ) (ns : List ℕ) → n < 2 ^ 32 → ((i : ℕ) → slice_index ns i < 2 ^ 32) → (i : ℕ) → slice_index (n ∷ ns) i < 2 ^ 32
-  each-cons n ns small rest zero = small
-  each-cons n ns small rest (suc i) = rest i
+    each-cons : (n : ℕ) (ns : List ℕ) → n < 2 ^ 32 → ((i : ℕ) → slice_index ns i < 2 ^ 32) → (i : ℕ) → slice_index (n ∷ ns) i < 2 ^ 32
+    each-cons n ns small rest zero = small
+    each-cons n ns small rest (suc i) = rest i
 
 words-tail : (n : ℕ) (ns : List ℕ) → AreWords (n ∷ ns) → AreWords ns
 words-tail n ns words = record { each = λ i. words.each (suc i) }

@@ -40,8 +40,7 @@ chunk-left left rest m is size =
     let parts : rest ≡ front ++ back = is ∙ ap encode_lower (sym (take-append-drop 64 left)) ∙ encode-append (take 64 left) (drop 64 left) in
     let all_size : length rest ≡ 2 * length left = ap length is ∙ length-digits left in
     let front_size : length front ≡ 2 * min 64 (length left) = length-digits (take 64 left) ∙ ap (λ (n : ℕ). 2 * n) (length-take 64 left) in
-    let same : m ≡ length front = omega arith in
-    (
+    let same : m ≡ length front = omega arith in (
       ap (λ (n : ℕ). take n rest) same ∙ ap (take (length front)) parts ∙ take-append_seam front back,
       ap (λ (n : ℕ). drop n rest) same ∙ ap (drop (length front)) parts ∙ drop-append_seam front back,
     )
@@ -52,9 +51,9 @@ bytes-nil = record { each = λ i. omega arith }
 bytes-cons : (b : ℕ) (bs : List ℕ) → b < 256 → AreBytes bs → AreBytes (b ∷ bs)
 bytes-cons b bs small rest = record { each = each-cons b bs small rest.each }
   where
-  each-cons : (b : ℕ) (bs : List ℕ) → b < 256 → ((i : ℕ) → slice_index bs i < 256) → (i : ℕ) → slice_index (b ∷ bs) i < 256
-  each-cons b bs small rest zero = small
-  each-cons b bs small rest (suc i) = rest i
+    each-cons : (b : ℕ) (bs : List ℕ) → b < 256 → ((i : ℕ) → slice_index bs i < 256) → (i : ℕ) → slice_index (b ∷ bs) i < 256
+    each-cons b bs small rest zero = small
+    each-cons b bs small rest (suc i) = rest i
 
 bytes-tail : (b : ℕ) (bs : List ℕ) → AreBytes (b ∷ bs) → AreBytes bs
 bytes-tail b bs bytes = record { each = λ i. bytes.each (suc i) }

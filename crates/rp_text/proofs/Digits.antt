@@ -21,7 +21,7 @@ digit-at radix (c ∷ cs) (suc i) all inside = digit-at radix cs i all.1 (omega 
 pub too-large : (radix value : ℕ) (ds : List ℕ) (i : ℕ) → 2 ≤ radix → i < length ds → value ≡ digits_value radix (take i ds) → 2 ^ 64 ≤ value * radix + digit_value (get_or ds i 0) → digits_value radix ds < 2 ^ 64 → ⊥
 too-large radix value ds i base inside is large small =
     let more : digits_value radix (take (i + 1) ds) ≡ value * radix + digit_value (get_or ds i 0) =
-        digits_value_more radix ds i inside ∙ ap (λ (v : ℕ). v * radix + digit_value (get_or ds i 0)) (sym is) in
+    digits_value_more radix ds i inside ∙ ap (λ (v : ℕ). v * radix + digit_value (get_or ds i 0)) (sym is) in
     let le = digits_value-take-le radix ds (i + 1) (omega arith) in
     omega arith
 

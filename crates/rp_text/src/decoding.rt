@@ -28,7 +28,11 @@ pub fn read_bytes(alloc: Global, word: &[u8]) -> Result<Octets, LineFault>
         return Err(LineFault::Line);
     }
     bytes.reserve(word.len() / 2)?;
-    if decode(word, &mut bytes) { Ok(bytes) } else { Err(LineFault::Line) }
+    if decode(word, &mut bytes) {
+        Ok(bytes)
+    } else {
+        Err(LineFault::Line)
+    }
 }
 
 /// Puts the bytes of lower-case digits into the room that there is, if they are such.

@@ -65,5 +65,9 @@ pub fn read_hex(word: &[u8]) -> Option<u64>
         return None;
     }
     let number = value_of(16, word.split_at(2).1)?;
-    if HexText::of(number).as_slice() == word { Some(number) } else { None }
+    if HexText::of(number).as_slice() == word {
+        Some(number)
+    } else {
+        None
+    }
 }

@@ -79,7 +79,12 @@ fn read_tag(words: &mut Words<'_>) -> Tag
 }
 
 /// Reads the words of a packet's body.
-fn read_body(alloc: Global, command: Command, tag: Tag, words: &mut Words<'_>) -> Result<Packet, NoMemory>
+fn read_body(
+    alloc: Global,
+    command: Command,
+    tag: Tag,
+    words: &mut Words<'_>,
+) -> Result<Packet, NoMemory>
     ensures tagged { IfOk result (λ p. value_of p ≡ tagged tag (value_of p).body) }
     ensures body { IfOk result (λ p. TakesBody command words.old words.new (value_of p).body) }
 {

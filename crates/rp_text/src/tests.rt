@@ -1,4 +1,4 @@
-use crate::packet_line;
+use crate::{LineFault, packet_line, read_line};
 use cos_base::Octets;
 use rp_packet::{Packet, ReadFault, packet_len};
 use std::alloc::Global;
@@ -128,6 +128,90 @@ fn packets_have_their_lines(rt: HostRuntime) -> Result<(), Fail> {
     assert_has_line!(rt, 6);
     assert_has_line!(rt, 7);
     assert_has_line!(rt, 8);
+    Ok(())
+}
+
+/// Whether the line is read as the packet that these bytes spell.
+fn is_read(alloc: Global, line: &[u8], bytes: &[u8]) -> bool {
+    let mut out = Octets::make(alloc);
+    match read_line(alloc, line) {
+        Ok(packet) => packet.write_into(&mut out).is_ok() && out.as_slice() == bytes,
+        Err(_) => false,
+    }
+}
+
+macro_rules! assert_is_read {
+    ($rt:expr, $number:literal) => {
+        assert!($rt; is_read($rt.alloc(), PACKETS.lines[$number], PACKETS.bytes[$number]), "line {}", $number);
+    };
+}
+
+#[test]
+fn lines_are_read_as_their_packets(rt: HostRuntime) -> Result<(), Fail> {
+    assert_is_read!(rt, 0);
+    assert_is_read!(rt, 1);
+    assert_is_read!(rt, 2);
+    assert_is_read!(rt, 3);
+    assert_is_read!(rt, 4);
+    assert_is_read!(rt, 5);
+    assert_is_read!(rt, 6);
+    assert_is_read!(rt, 7);
+    assert_is_read!(rt, 8);
+    Ok(())
+}
+
+macro_rules! assert_refused {
+    ($rt:expr, $line:literal) => {
+        assert_eq!($rt; read_line($rt.alloc(), $line).err(), Some(LineFault::Line));
+    };
+}
+
+#[test]
+fn other_lines_are_refused(rt: HostRuntime) -> Result<(), Fail> {
+    // nothing, a name alone, an unknown one, and a name in upper case
+    assert_refused!(rt, b"");
+    assert_refused!(rt, b"nop");
+    assert_refused!(rt, b"null 0 0 0");
+    assert_refused!(rt, b"Sync 7 0 0 1000");
+    // blanks at the front, at the end and twice, a tab, a line feed, a word too few and one too many
+    assert_refused!(rt, b" sync 7 0 0 1000");
+    assert_refused!(rt, b"sync 7 0 0 1000 ");
+    assert_refused!(rt, b"sync 7  0 0 1000");
+    assert_refused!(rt, b"sync 7\t0 0 1000");
+    assert_refused!(rt, b"sync 7 0 0 1000\n");
+    assert_refused!(rt, b"sync 7 0 0");
+    assert_refused!(rt, b"sync 7 0 0 1000 0");
+    // the mark of a loose spelling
+    assert_refused!(rt, b"hello 0 0 0 4 3 1 2 3 loose");
+    // a sign, a leading zero, another radix, and numbers above their fields
+    assert_refused!(rt, b"sync +7 0 0 1000");
+    assert_refused!(rt, b"sync 07 0 0 1000");
+    assert_refused!(rt, b"sync 0x7 0 0 1000");
+    assert_refused!(rt, b"sync 4294967296 0 0 1000");
+    assert_refused!(rt, b"sync 7 0 0 18446744073709551616");
+    assert_refused!(rt, b"cfg 0 0 0 3 256");
+    assert_refused!(rt, b"hello 0 0 0 65536 3");
+    Ok(())
+}
+
+#[test]
+fn other_lines_of_bus_packets_are_refused(rt: HostRuntime) -> Result<(), Fail> {
+    // attributes in decimal, with a leading zero, in upper case and too large
+    assert_refused!(rt, b"read 1 0 0 100 0 0x8 4 0 4 0 - -");
+    assert_refused!(rt, b"read 1 0 0 100 0x00 0x8 4 0 4 0 - -");
+    assert_refused!(rt, b"read 1 0 0 100 0x0 0xA 4 0 4 0 - -");
+    assert_refused!(rt, b"read 1 0 0 100 0x0 0x 4 0 4 0 - -");
+    assert_refused!(rt, b"read 1 0 0 100 0x0 0x10000000000000000 4 0 4 0 - -");
+    // data that aren't there, digits in upper case, half a byte, no digit
+    assert_refused!(rt, b"write 1 0 0 2 0x4 0x0 4 0 4 0 - -");
+    assert_refused!(rt, b"write 1 0 0 2 0x4 0x0 4 0 4 0 4100000A -");
+    assert_refused!(rt, b"write 1 0 0 2 0x4 0x0 4 0 4 0 4100000 -");
+    assert_refused!(rt, b"write 1 0 0 2 0x4 0x0 4 0 4 0 4100000g -");
+    assert_refused!(rt, b"write 1 0 0 2 0x4 0x0 4 0 4 0 41000000");
+    // data that aren't as many as are carried, enables and a wide master in the old layout
+    assert_refused!(rt, b"read 1 0 0 100 0x0 0x8 4 0 4 0 2a000000 -");
+    assert_refused!(rt, b"write 1 0 0 2 0x0 0x0 4 0 4 0 41000000 ff");
+    assert_refused!(rt, b"read 1 0 0 2 0x0 0x0 4 0 4 65536 - -");
     Ok(())
 }
 
