@@ -1,8 +1,9 @@
 //! The program `cosim`: it makes the real objects, does what its words say, and ends with the status' number.
 #![tactic(auto)]
 
-use cos_base::{StdSink, UnixNet};
-use cosim_cli::{Status, cosim, misspelled, tell_status};
+use cos_base::{DiskFiles, StdSink, UnixNet};
+use cosim_cli::{cosim, misspelled};
+use cosim_status::{Status, tell_status};
 use std::env::{Env, FillError};
 use std::process::ExitCode;
 use std::str;
@@ -42,13 +43,22 @@ fn read_words(rt: &HostRuntime) -> Words {
 }
 
 fn main(rt: HostRuntime) -> ExitCode {
+    let mut files = DiskFiles::make(rt.alloc(), &rt);
+    let mut out = StdSink::make(rt.stdout());
     let mut err = StdSink::make(rt.stderr());
     let mut net = UnixNet::make(rt.alloc(), &rt);
     let status = match read_words(&rt) {
-        Words::All(words) => cosim(rt.alloc(), &words, &mut err, &mut net),
+        Words::All(words) => cosim(
+            rt.alloc(),
+            &words,
+            &mut files,
+            &mut out,
+            &mut err,
+            &mut net,
+        ),
         Words::Misspelled(words) => misspelled(&words, &mut err),
         Words::NoMemory => {
-            tell_status(&mut err, Status::NoMemory);
+            tell_status(&mut err, &Status::NoMemory);
             Status::NoMemory
         }
     };

@@ -16,10 +16,9 @@ use Rattle.end_device.specs.Talk.{TalkEnds, talk, ends, ByTalk, IsByTalk}
 use Rattle.end_device.specs.TalkLaws.{talk-once, talk-below}
 use Rattle.end_device.proofs.TurnLaws.{out-grows}
 use Rattle.end_device.specs.Serving.{ServeCounts, NotLink}
-use Rattle.cosim_cli.specs.declared.status.Status.{Status}
-use Rattle.cosim_cli.specs.declared.status.Status.TheVariants as status
-use Rattle.cosim_cli.specs.Statuses.{served_status}
-use Rattle.cosim_cli.specs.Talks.{offered, StatusTalks, OfPeer, DoneOrMemory, TalksCleanly, Completes}
+use Rattle.cosim_status.specs.declared.status.Status.{Status}
+use Rattle.cosim_status.specs.declared.status.Status.TheVariants as status
+use Rattle.cosim_cli.specs.Talks.{offered, StatusTalks, OfPeer, DoneOrMemory, TalksCleanly, Completes, served_status}
 use Rattle.cosim_cli.specs.Causes.{BlamesSoundly, BlamesNone, LinkBlames}
 
 -- Talk that ends cleanly ends in no fault
@@ -45,6 +44,8 @@ link-done said status.Done before grows sound blames clean talks = tt
 link-done said status.NoMemory before grows sound blames clean talks = tt
 link-done said (status.Outside o n) before grows sound blames clean talks = sound
 link-done said (status.Usage index) before grows sound blames clean talks = blames
+link-done said (status.Config e) before grows sound blames clean talks = blames
+link-done said (status.Input e) before grows sound blames clean talks = blames
 link-done said (status.Peer port f) before grows sound blames clean talks = clean-by said f grows talks.1 clean talks.2
 
 pub link-completes : (told : Option Wire) (w : Wire) (s : Status) (before : ℕ) → IfSome told IsWire → told ≡ Some w → BlamesNone s → LinkBlames before s → IfSome told (λ v. StatusTalks v.said s) → TalksCleanly w.said → DoneOrMemory s
@@ -57,6 +58,8 @@ pub sound-status : {L : Type 0} (old : Option (Coming L)) (s : Status) → Blame
 sound-status old (status.Outside o n) sound = absurd sound
 sound-status old status.Done sound = tt
 sound-status old (status.Usage index) sound = tt
+sound-status old (status.Config e) sound = tt
+sound-status old (status.Input e) sound = tt
 sound-status old (status.Peer port f) sound = tt
 sound-status old status.NoMemory sound = tt
 

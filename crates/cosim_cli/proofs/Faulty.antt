@@ -1,69 +1,49 @@
-use Rattle.std.proofs.Common.{ℕ, ◌≡◌, List, [], ◌∷◌, length, codes, refl, ap, sym, ◌∙◌, subst, arith, inl, inr, get_or, take}
+-- The forms are the commands.
+use Rattle.std.proofs.Common.{ℕ, ◌≡◌, ◌+◌, ◌≤◌, ◌⊎◌, List, [], ◌∷◌, ◌++◌, length, take, codes, refl, ap, sym, ◌∙◌, subst, inl, inr}
 use Rattle.std.proofs.Math.Seq.{take-length}
-use Rattle.cosim_cli.specs.Words.{Begins, IsFaulty}
+use Rattle.std.proofs.lemmas.List.{append-nil}
+use Rattle.cosim_cli.specs.Words.{Command, Device, Help, words_of, IsCommand, Begins, IsFaulty}
+use Rattle.cosim_cli.specs.Forms.{Word, Exact, Any, Fits, FitsSome, BeginsSome, FaultyIn, forms}
 
--- the word at a place, or none
-abbrev pub word_at : ℕ → List (List ℕ) → List ℕ
-word_at n ws = get_or ws n []
+-- words of a form with one word, and with three of which one may be any
+pub fits-one : (a : List ℕ) (ws : List (List ℕ)) → Fits (Exact a ∷ []) ws → ws ≡ a ∷ []
+fits-one a [] fits = absurd fits
+fits-one a (v ∷ []) fits = ap (λ x. x ∷ []) fits.0
+fits-one a (v ∷ w ∷ ws) fits = absurd fits.1
 
-pub begins-none : Begins []
-begins-none = (codes "device" ∷ [] ∷ codes "null" ∷ [], ([], refl))
+pub fits-three : (a b : List ℕ) (ws : List (List ℕ)) → Fits (Exact a ∷ Any ∷ Exact b ∷ []) ws → (w : List ℕ) × (ws ≡ a ∷ w ∷ b ∷ [])
+fits-three a b [] fits = absurd fits
+fits-three a b (u ∷ []) fits = absurd fits.1
+fits-three a b (u ∷ v ∷ []) fits = absurd fits.1.1
+fits-three a b (u ∷ v ∷ w ∷ []) fits = (v, ap (λ x. x ∷ v ∷ w ∷ []) fits.0 ∙ ap (λ x. a ∷ v ∷ x ∷ []) fits.1.1.0)
+fits-three a b (u ∷ v ∷ w ∷ x ∷ ws) fits = absurd fits.1.1.1
 
-pub begins-one : Begins (codes "device" ∷ [])
-begins-one = ([] ∷ codes "null" ∷ [], ([], refl))
+pub forms-commands : (ws : List (List ℕ)) → FitsSome forms ws → IsCommand ws
+forms-commands ws (inl fits) = let by = fits-three (codes "device") (codes "null") ws fits in (Device by.0, by.1)
+forms-commands ws (inr (inl fits)) = (Help, fits-one (codes "help") ws fits)
+forms-commands ws (inr (inr fits)) = absurd fits
 
-pub begins-two : (s : List ℕ) → Begins (codes "device" ∷ s ∷ [])
-begins-two s = (codes "null" ∷ [], (s, refl))
+pub command-fits : (c : Command) → FitsSome forms (words_of c)
+command-fits (Device socket) = inl (refl, (tt, (refl, tt)))
+command-fits Help = inr (inl (refl, tt))
 
-pub begins-three : (s : List ℕ) → Begins (codes "device" ∷ s ∷ codes "null" ∷ [])
-begins-three s = ([], (s, refl))
+pub commands-forms : (ws : List (List ℕ)) → IsCommand ws → FitsSome forms ws
+commands-forms ws (c, is) = subst (FitsSome forms) (sym is) (command-fits c)
 
-pub faulty-none : (ws : List (List ℕ)) → ws ≡ [] → IsFaulty ws 0
-faulty-none ws is = subst (λ w. IsFaulty w 0) (sym is) (record { no_command = λ (s, e). let bad = ap length e in absurd (cc); before = begins-none; at = inr refl; within = omega arith })
+pub faulty-of : (ws : List (List ℕ)) (i : ℕ) → FaultyIn forms ws i → IsFaulty ws i
+faulty-of ws i faulty = record {
+  no_command = λ is. faulty.no_form (commands-forms ws is);
+  before = (faulty.before.0, forms-commands (take i ws ++ faulty.before.0) faulty.before.1);
+  at = elim (faulty.at) [
+    | inl never ↦ inl (λ begins. never (begins.0, commands-forms (take (i + 1) ws ++ begins.0) begins.1))
+    | inr end ↦ inr end
+  ];
+  within = faulty.within;
+}
 
-pub faulty-first : (ws : List (List ℕ)) (w : List ℕ) (rest : List (List ℕ)) → ws ≡ w ∷ rest → (w ≡ codes "device" → ⊥) → IsFaulty ws 0
-faulty-first ws w rest is differs = subst (λ x. IsFaulty x 0) (sym is) (record {
-  no_command = λ (s, e). differs (ap (word_at 0) e);
-  before = begins-none;
-  at = inl (λ (more, (s, e)). differs (ap (word_at 0) e));
-  within = omega arith;
-})
-
-pub faulty-one : (ws : List (List ℕ)) → ws ≡ codes "device" ∷ [] → IsFaulty ws 1
-faulty-one ws is = subst (λ x. IsFaulty x 1) (sym is) (record { no_command = λ (s, e). let bad = ap length e in absurd (cc); before = begins-one; at = inr refl; within = omega arith })
-
-pub faulty-two : (ws : List (List ℕ)) (s : List ℕ) → ws ≡ codes "device" ∷ s ∷ [] → IsFaulty ws 2
-faulty-two ws s is = subst (λ x. IsFaulty x 2) (sym is) (record { no_command = λ (s, e). let bad = ap length e in absurd (cc); before = begins-two s; at = inr refl; within = omega arith })
-
-pub faulty-third : (ws : List (List ℕ)) (s w : List ℕ) (rest : List (List ℕ)) → ws ≡ codes "device" ∷ s ∷ w ∷ rest → (w ≡ codes "null" → ⊥) → IsFaulty ws 2
-faulty-third ws s w rest is differs = subst (λ x. IsFaulty x 2) (sym is) (record {
-  no_command = λ (t, e). differs (ap (word_at 2) e);
-  before = begins-two s;
-  at = inl (λ (more, (t, e)). differs (ap (word_at 2) e));
-  within = omega arith;
-})
-
-pub faulty-more : (ws : List (List ℕ)) (s w : List ℕ) (rest : List (List ℕ)) → ws ≡ codes "device" ∷ s ∷ codes "null" ∷ w ∷ rest → IsFaulty ws 3
-faulty-more ws s w rest is = subst (λ x. IsFaulty x 3) (sym is) (record {
-  no_command = λ (t, e). let bad = ap length e in absurd (omega (arith, bad));
-  before = begins-three s;
-  at = inl (λ (more, (t, e)). let bad = ap length e in absurd (omega (arith, bad)));
-  within = omega arith;
-})
-
--- the same, by the steps of a reading from the front
-pub ends-one : (ws after : List (List ℕ)) (d : List ℕ) → ws ≡ d ∷ after → d ≡ codes "device" → after ≡ [] → IsFaulty ws 1
-ends-one ws after d a b c = faulty-one ws (a ∙ ap (λ x. x ∷ after) b ∙ ap (λ l. codes "device" ∷ l) c)
-
-pub ends-two : (ws after rest : List (List ℕ)) (d s : List ℕ) → ws ≡ d ∷ after → d ≡ codes "device" → after ≡ s ∷ rest → rest ≡ [] → IsFaulty ws 2
-ends-two ws after rest d s a b c e = faulty-two ws s (a ∙ ap (λ x. x ∷ after) b ∙ ap (λ l. codes "device" ∷ l) (c ∙ ap (λ l. s ∷ l) e))
-
-pub ends-third : (ws after rest more : List (List ℕ)) (d s n : List ℕ) → ws ≡ d ∷ after → d ≡ codes "device" → after ≡ s ∷ rest → rest ≡ n ∷ more → (n ≡ codes "null" → ⊥) → IsFaulty ws 2
-ends-third ws after rest more d s n a b c e differs = faulty-third ws s n more (a ∙ ap (λ x. x ∷ after) b ∙ ap (λ l. codes "device" ∷ l) (c ∙ ap (λ l. s ∷ l) e)) differs
-
-pub ends-more : (ws after rest more last : List (List ℕ)) (d s n x : List ℕ) → ws ≡ d ∷ after → d ≡ codes "device" → after ≡ s ∷ rest → rest ≡ n ∷ more → n ≡ codes "null" → more ≡ x ∷ last → IsFaulty ws 3
-ends-more ws after rest more last d s n x a b c e f g = faulty-more ws s x last (a ∙ ap (λ x. x ∷ after) b ∙ ap (λ l. codes "device" ∷ l) (c ∙ ap (λ l. s ∷ l) (e ∙ ap (λ y. y ∷ more) f ∙ ap (λ l. codes "null" ∷ l) g)))
+pub begins-forms : BeginsSome forms []
+begins-forms = (codes "help" ∷ [], command-fits Help)
 
 -- a whole command begins itself
-pub stops-whole : (ws : List (List ℕ)) (s : List ℕ) (n : ℕ) → n ≡ length ws → ws ≡ codes "device" ∷ s ∷ codes "null" ∷ [] → Begins (take n ws)
-stops-whole ws s n e is = subst (λ x. Begins x) (sym (ap (λ m. take m ws) e ∙ take-length ws ∙ is)) (begins-three s)
+pub stops-whole : (ws : List (List ℕ)) (c : Command) (n : ℕ) → n ≡ length ws → ws ≡ words_of c → Begins (take n ws)
+stops-whole ws c n e is = subst Begins (sym (ap (λ m. take m ws) e ∙ take-length ws)) ([], (c, append-nil ws ∙ is))

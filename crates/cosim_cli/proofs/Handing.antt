@@ -4,11 +4,11 @@ use Rattle.std.specs.declared.option.Option.TheVariants.{Some, None}
 use Rattle.std.specs.declared.result.Result.TheVariants.{Ok}
 use Rattle.cos_base.specs.Links.{Wire}
 use Rattle.cos_base.specs.Networks.{Coming, Hands}
-use Rattle.cosim_cli.specs.declared.status.Status.{Status}
-use Rattle.cosim_cli.specs.declared.status.Status.TheVariants as status
-use Rattle.cosim_cli.specs.declared.status.Object.TheVariants as object
+use Rattle.cosim_status.specs.declared.status.Status.{Status}
+use Rattle.cosim_status.specs.declared.status.Status.TheVariants as status
+use Rattle.cosim_status.specs.declared.status.Object.TheVariants as object
 use Rattle.cosim_cli.specs.Talks.{StatusTalks, TopTalks, ForFirst}
-use Rattle.cosim_cli.specs.Causes.{IsHanded, Blames, LinkBlames, Lacks}
+use Rattle.cosim_cli.specs.Causes.{IsHanded, NetBlames, LinkBlames, Lacks}
 use Rattle.cosim_cli.specs.Names.{Grew, GrewTold, DeviceNames}
 
 -- a link that was handed out is the first that was to come
@@ -34,11 +34,15 @@ pub hands-lacks : {L : Type 0} (old now : Option (Coming L)) (names : List (List
 hands-lacks None now names l s hands = tt
 hands-lacks (Some t) now names l s (rest, first, is) = λ none. let bad = sym none ∙ first in absurd (cc)
 
-pub hands-blames : {L : Type 0} (count : L → ℕ) (old now : Option (Coming L)) (names : List (List ℕ)) (l : L) (before after : ℕ) (s : Status) → Hands old now names (Ok l) → after ≡ before → LinkBlames (count l) s → Blames count old before after s
+pub hands-blames : {L : Type 0} (count : L → ℕ) (old now : Option (Coming L)) (names : List (List ℕ)) (l : L) (before after : ℕ) (s : Status) → Hands old now names (Ok l) → after ≡ before → LinkBlames (count l) s → NetBlames count old before after s
 hands-blames count old now names l before after (status.Outside object.Net n) hands same blames = absurd blames
 hands-blames count old now names l before after (status.Outside (object.Link port) n) hands same blames = (same, blames.0, l, hands-handed old now names l hands, blames.1)
 hands-blames count old now names l before after status.Done hands same blames = same
 hands-blames count old now names l before after (status.Usage index) hands same blames = absurd blames
+hands-blames count old now names l before after (status.Config e) hands same blames = absurd blames
+hands-blames count old now names l before after (status.Input e) hands same blames = absurd blames
+hands-blames count old now names l before after (status.Outside object.Files n) hands same blames = absurd blames
+hands-blames count old now names l before after (status.Outside object.Out n) hands same blames = absurd blames
 hands-blames count old now names l before after (status.Peer port f) hands same blames = same
 hands-blames count old now names l before after status.NoMemory hands same blames = same
 
@@ -47,5 +51,9 @@ hands-names count old now socket l (status.Outside object.Net n) hands blames = 
 hands-names count old now socket l (status.Outside (object.Link port) n) hands blames = hands-told old now (socket ∷ []) l hands
 hands-names count old now socket l status.Done hands blames = hands-told old now (socket ∷ []) l hands
 hands-names count old now socket l (status.Usage index) hands blames = absurd blames
+hands-names count old now socket l (status.Config e) hands blames = absurd blames
+hands-names count old now socket l (status.Input e) hands blames = absurd blames
+hands-names count old now socket l (status.Outside object.Files n) hands blames = absurd blames
+hands-names count old now socket l (status.Outside object.Out n) hands blames = absurd blames
 hands-names count old now socket l (status.Peer port f) hands blames = hands-told old now (socket ∷ []) l hands
 hands-names count old now socket l status.NoMemory hands blames = inr (hands-grew old now (socket ∷ []) l hands)

@@ -1,4 +1,5 @@
 pub mod Completing
 pub mod Faulty
 pub mod Handing
-pub mod Putting
+pub mod Helping
+pub mod Reading

@@ -1,6 +1,7 @@
 pub mod Causes
-pub mod Lines
+pub mod Forms
+pub mod Help
 pub mod Names
-pub mod Statuses
+pub mod Promises
 pub mod Talks
 pub mod Words

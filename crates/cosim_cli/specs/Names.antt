@@ -3,10 +3,9 @@ use Rattle.std.specs.Prelude.{ℕ, ◌≡◌, ◌⊎◌, List, [], ◌∷◌, �
 use Rattle.std.specs.declared.option.Option.{Option}
 use Rattle.std.specs.declared.option.Option.TheVariants.{Some, None}
 use Rattle.cos_base.specs.Networks.{Coming}
-use Rattle.cosim_cli.specs.declared.status.Status.{Status}
-use Rattle.cosim_cli.specs.declared.status.Status.TheVariants as status
-use Rattle.cosim_cli.specs.declared.status.Object.TheVariants as object
-use Rattle.cosim_cli.specs.Words.{IsDevice}
+use Rattle.cosim_status.specs.declared.status.Status.{Status}
+use Rattle.cosim_status.specs.declared.status.Status.TheVariants as status
+use Rattle.cosim_status.specs.declared.status.Object.TheVariants as object
 
 -- the names grew by these, where they are told before and after
 abbrev pub Grew : {L : Type 0} → Option (Coming L) → Option (Coming L) → List (List ℕ) → Type 0
@@ -26,11 +25,7 @@ DeviceNames old now socket (status.Outside (object.Link port) n) = GrewTold old 
 DeviceNames old now socket (status.Outside object.Net n) = Grew old now (socket ∷ [])
 DeviceNames old now socket status.NoMemory = Grew old now [] ⊎ Grew old now (socket ∷ [])
 DeviceNames old now socket (status.Usage index) = ⊥
-
--- The names stand where the words are no command; else they grew as the command says.
-abbrev pub NamesOf : {L : Type 0} → Option (Coming L) → Option (Coming L) → List (List ℕ) → Status → Type 0
-NamesOf old now words (status.Usage index) = now ≡ old
-NamesOf old now words status.Done = (socket : List ℕ) → IsDevice socket words → DeviceNames old now socket status.Done
-NamesOf old now words (status.Peer port f) = (socket : List ℕ) → IsDevice socket words → DeviceNames old now socket (status.Peer port f)
-NamesOf old now words (status.Outside o count) = (socket : List ℕ) → IsDevice socket words → DeviceNames old now socket (status.Outside o count)
-NamesOf old now words status.NoMemory = (socket : List ℕ) → IsDevice socket words → DeviceNames old now socket status.NoMemory
+DeviceNames old now socket (status.Config e) = ⊥
+DeviceNames old now socket (status.Input e) = ⊥
+DeviceNames old now socket (status.Outside object.Files n) = ⊥
+DeviceNames old now socket (status.Outside object.Out n) = ⊥

@@ -1,14 +1,26 @@
 -- The commands of the program, as lists of words, and at which word other words stop being one.
 use Rattle.std.specs.Prelude.{ℕ, ◌≡◌, ◌+◌, ◌≤◌, ◌⊎◌, List, [], ◌∷◌, ◌++◌, length, take, codes}
-use Rattle.cosim_cli.specs.declared.status.Status.{Status}
-use Rattle.cosim_cli.specs.declared.status.Status.TheVariants as status
+use Rattle.cosim_status.specs.declared.status.Status.{Status}
+use Rattle.cosim_status.specs.declared.status.Status.TheVariants as status
+use Rattle.cosim_cli.specs.declared.words.Command.{Command as Read}
+use Rattle.cosim_cli.specs.declared.words.Command.TheVariants as read
 
--- serve a null device at a socket
-abbrev pub IsDevice : List ℕ → List (List ℕ) → Type 0
-IsDevice socket words = words ≡ codes "device" ∷ socket ∷ codes "null" ∷ []
+-- A command with its words. A word that is named here may be any, the empty one too.
+pub data Command : Type 0 where
+  Device : List ℕ → Command
+  Help : Command
+
+abbrev pub words_of : Command → List (List ℕ)
+words_of (Device socket) = codes "device" ∷ socket ∷ codes "null" ∷ []
+words_of Help = codes "help" ∷ []
+
+-- the command that was read
+abbrev pub asked : Read → Command
+asked (read.Device socket) = Device socket.now
+asked read.Help = Help
 
 abbrev pub IsCommand : List (List ℕ) → Type 0
-IsCommand words = (socket : List ℕ) × IsDevice socket words
+IsCommand words = (c : Command) × (words ≡ words_of c)
 
 -- some command begins with these words
 abbrev pub Begins : List (List ℕ) → Type 0
@@ -25,7 +37,9 @@ pub record IsFaulty (words : List (List ℕ)) (index : ℕ) : Type 0 where
 abbrev pub Uses : List (List ℕ) → Status → Type 0
 Uses words (status.Usage index) = IsFaulty words index
 Uses words status.Done = IsCommand words
-Uses words (status.Peer port f) = IsCommand words
+Uses words (status.Config e) = IsCommand words
+Uses words (status.Input e) = IsCommand words
+Uses words (status.Peer port e) = IsCommand words
 Uses words (status.Outside o count) = IsCommand words
 Uses words status.NoMemory = IsCommand words
 
@@ -33,6 +47,8 @@ Uses words status.NoMemory = IsCommand words
 abbrev pub StopsAt : List (List ℕ) → Status → Type 0
 StopsAt words (status.Usage index) = Begins (take index words) × ((Begins (take (index + 1) words) → ⊥) ⊎ (index ≡ length words))
 StopsAt words status.Done = ⊥
-StopsAt words (status.Peer port f) = ⊥
+StopsAt words (status.Config e) = ⊥
+StopsAt words (status.Input e) = ⊥
+StopsAt words (status.Peer port e) = ⊥
 StopsAt words (status.Outside o count) = ⊥
 StopsAt words status.NoMemory = ⊥

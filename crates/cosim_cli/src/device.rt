@@ -1,13 +1,12 @@
 // The command `device`.
 ghost use Rattle.std.specs.Prelude.{◌≡◌, IfSome, Some};
 ghost use Rattle.cos_base.specs.Links.{IsFresh, Wire};
-ghost use Rattle.cosim_cli.specs.Statuses.{served_status};
-ghost use Rattle.cosim_cli.specs.Talks.{StatusTalks, TopTalks, Completes, TalksCleanly, DoneOrMemory};
-ghost use Rattle.cosim_cli.specs.Causes.{Blames, LinkBlames, BlamesSoundly, BlamesNone, Lacks};
+ghost use Rattle.cosim_cli.specs.Talks.{StatusTalks, TopTalks, Completes, TalksCleanly, DoneOrMemory, served_status};
+ghost use Rattle.cosim_cli.specs.Causes.{NetBlames, LinkBlames, BlamesSoundly, BlamesNone, Lacks};
 ghost use Rattle.cosim_cli.specs.Names.{DeviceNames};
 
-use crate::status::{Object, Status};
 use cos_base::{Link, NetFault, Network};
+use cosim_status::{Object, Status};
 use end_device::{Caps, DeviceEnd, EndFault, serve};
 use std::alloc::Global;
 
@@ -50,7 +49,7 @@ fn serve_link<L: Link>(alloc: Global, link: &mut L) -> Status
 /// Connects to a socket, serves the connection and closes it.
 pub fn device<N: Network>(alloc: Global, socket: &str, net: &mut N) -> Status
     ensures talks { TopTalks N.Link.told (N.told net.old) result }
-    ensures blames { Blames N.Link.count (N.told net.old) (N.count net.old) (N.count net.new) result }
+    ensures blames { NetBlames N.Link.count (N.told net.old) (N.count net.old) (N.count net.new) result }
     ensures names { DeviceNames (N.told net.old) (N.told net.new) socket.now result }
     ensures lacks { Lacks (N.told net.old) result }
     ensures sound { N.sound net.old → BlamesSoundly (N.told net.old) result }

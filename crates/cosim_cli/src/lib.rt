@@ -2,13 +2,10 @@
 #![tactic(auto)]
 
 mod device;
-mod lines;
-mod status;
+mod help;
 mod top;
 mod words;
 
-pub use lines::tell_status;
-pub use status::{Object, Status};
 pub use top::{cosim, misspelled};
 
 #[cfg(test)]

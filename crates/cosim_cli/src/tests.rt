@@ -1,6 +1,5 @@
-use crate::{Object, Status, cosim};
-use cos_base::{MemLink, MemNet, MemSink, NoMemory, Numbers, Octets, Said};
-use end_device::EndFault;
+use crate::cosim;
+use cos_base::{MemFiles, MemLink, MemNet, MemSink, NoMemory, Numbers, Octets, Said};
 use std::alloc::{AllocError, Global};
 use std::test::Fail;
 
@@ -49,100 +48,134 @@ fn net_of(
     Ok(MemNet::make(alloc, links, Numbers::make(alloc)))
 }
 
-/// The status over that network; Done in place of a status whose line isn't this one.
-fn run(
+/// Whether the program ends so over this network: with this number and this line. It prints nothing and touches no file.
+fn ends(
     alloc: Global,
     words: &[&str],
     net: &mut MemNet<Said>,
+    code: u8,
     line: &str,
-) -> Result<Status, NoMemory> {
+) -> Result<bool, NoMemory> {
+    let mut files = MemFiles::make(alloc, Numbers::make(alloc));
+    let mut out = MemSink::make(alloc, 0, Numbers::make(alloc))?;
     let mut err = MemSink::make(alloc, 100, Numbers::make(alloc))?;
     let words = match list(alloc, words) {
         Ok(words) => words,
         Err(_) => return Err(NoMemory),
     };
-    let status = cosim(alloc, &words, &mut err, net);
-    if err.bytes() == line.as_bytes() {
-        Ok(status)
-    } else {
-        Ok(Status::Done)
-    }
+    let status = cosim(alloc, &words, &mut files, &mut out, &mut err, net);
+    Ok(status.code() == code && err.bytes() == line.as_bytes())
 }
 
-/// The status of `device` over a link that says these bytes.
-fn serve(alloc: Global, said: &[u8], cut: u32, line: &str) -> Result<Status, NoMemory> {
+/// Whether `device` ends so over a link that says these bytes in pieces of this size.
+fn serves(alloc: Global, said: &[u8], cut: u32, code: u8, line: &str) -> Result<bool, NoMemory> {
     let mut net = net_of(alloc, said, cut, Numbers::make(alloc))?;
-    run(alloc, &["device", "s", "null"], &mut net, line)
+    ends(alloc, &["device", "s", "null"], &mut net, code, line)
 }
 
 #[test]
 fn device_is_done_however_the_stream_is_cut(rt: HostRuntime) -> Result<(), Fail> {
-    assert_eq!(rt; serve(rt.alloc(), &STREAM[..72], 0, "")?, Status::Done);
-    assert_eq!(rt; serve(rt.alloc(), &STREAM[..72], 1, "")?, Status::Done);
-    assert_eq!(rt; serve(rt.alloc(), &STREAM[..72], 7, "")?, Status::Done);
+    for cut in [0, 1, 7] {
+        assert!(rt; serves(rt.alloc(), &STREAM[..72], cut, 0, "")?);
+    }
     Ok(())
-}
-
-/// The status of a fault of the one peer.
-fn of_peer(fault: EndFault) -> Status {
-    Status::Peer { port: 0, fault }
 }
 
 #[test]
 fn peer_faults_are_told(rt: HostRuntime) -> Result<(), Fail> {
-    let ended = serve(rt.alloc(), &[], 1, "cosim: peer p0: Ended 0\n")?;
-    assert_eq!(rt; ended, of_peer(EndFault::Ended { taken: 0 }));
-    let truncated = serve(
-        rt.alloc(),
-        &STREAM[..19],
-        1,
-        "cosim: peer p0: Truncated 0 19\n",
-    )?;
-    assert_eq!(rt;
-        truncated,
-        of_peer(EndFault::Truncated { start: 0, held: 19 })
+    let alloc = rt.alloc();
+    assert!(rt; serves(alloc, &[], 1, 4, "cosim: peer p0: Ended 0\n")?);
+    assert!(rt;
+        serves(
+            alloc,
+            &STREAM[..19],
+            1,
+            4,
+            "cosim: peer p0: Truncated 0 19\n"
+        )?
     );
-    let first = serve(
-        rt.alloc(),
-        &STREAM[44..72],
-        1,
-        "cosim: peer p0: Unbuilt 0\n",
-    )?;
-    assert_eq!(rt; first, of_peer(EndFault::Unbuilt { start: 0 }));
-    let third = serve(rt.alloc(), &STREAM, 1, "cosim: peer p0: Unbuilt 72\n")?;
-    assert_eq!(rt; third, of_peer(EndFault::Unbuilt { start: 72 }));
+    assert!(rt; serves(alloc, &STREAM[44..72], 1, 4, "cosim: peer p0: Unbuilt 0\n")?);
+    assert!(rt; serves(alloc, &STREAM, 1, 4, "cosim: peer p0: Unbuilt 72\n")?);
     Ok(())
 }
 
 #[test]
 fn faulty_words_are_told(rt: HostRuntime) -> Result<(), Fail> {
-    let mut net = net_of(rt.alloc(), &[], 0, Numbers::make(rt.alloc()))?;
-    let none = run(rt.alloc(), &[], &mut net, "cosim: usage at word 0\n")?;
-    assert_eq!(rt; none, Status::Usage { index: 0 });
-    let other = run(
-        rt.alloc(),
-        &["device", "s", "nil"],
-        &mut net,
-        "cosim: usage at word 2\n",
-    )?;
-    assert_eq!(rt; other, Status::Usage { index: 2 });
+    let alloc = rt.alloc();
+    let mut net = net_of(alloc, &[], 0, Numbers::make(alloc))?;
+    assert!(rt; ends(alloc, &[], &mut net, 1, "cosim: usage at word 0\n")?);
+    assert!(rt; ends(alloc, &["device"], &mut net, 1, "cosim: usage at word 1\n")?);
+    assert!(rt;
+        ends(
+            alloc,
+            &["device", "s", "nil"],
+            &mut net,
+            1,
+            "cosim: usage at word 2\n"
+        )?
+    );
+    assert!(rt;
+        ends(
+            alloc,
+            &["device", "s", "null", "x"],
+            &mut net,
+            1,
+            "cosim: usage at word 3\n"
+        )?
+    );
+    assert!(rt;
+        ends(
+            alloc,
+            &["help", "me"],
+            &mut net,
+            1,
+            "cosim: usage at word 1\n"
+        )?
+    );
+    assert!(rt; ends(alloc, &["--help"], &mut net, 1, "cosim: usage at word 0\n")?);
     Ok(())
-}
-
-/// The status of an object that failed once.
-fn outside(object: Object) -> Status {
-    Status::Outside { object, count: 1 }
 }
 
 #[test]
 fn faults_of_the_outside_are_told(rt: HostRuntime) -> Result<(), Fail> {
-    let failing = numbers(rt.alloc(), 1, 0)?;
-    let mut net = net_of(rt.alloc(), &STREAM, 0, failing)?;
+    let alloc = rt.alloc();
+    let failing = numbers(alloc, 1, 0)?;
+    let mut net = net_of(alloc, &STREAM, 0, failing)?;
     let words = ["device", "s", "null"];
-    let link = run(rt.alloc(), &words, &mut net, "cosim: outside: link p0 1\n")?;
-    assert_eq!(rt; link, outside(Object::Link { port: 0 }));
+    assert!(rt; ends(alloc, &words, &mut net, 5, "cosim: outside: link p0 1\n")?);
     // the one link is gone
-    let none = run(rt.alloc(), &words, &mut net, "cosim: outside: net 1\n")?;
-    assert_eq!(rt; none, outside(Object::Net));
+    assert!(rt; ends(alloc, &words, &mut net, 5, "cosim: outside: net 1\n")?);
+    Ok(())
+}
+
+#[test]
+fn a_failing_standard_error_changes_nothing(rt: HostRuntime) -> Result<(), Fail> {
+    let alloc = rt.alloc();
+    let mut files = MemFiles::make(alloc, Numbers::make(alloc));
+    let mut net = net_of(alloc, &[], 0, Numbers::make(alloc))?;
+    let mut out = MemSink::make(alloc, 0, Numbers::make(alloc))?;
+    let mut err = MemSink::make(alloc, 100, numbers(alloc, 1, 1)?)?;
+    let status = cosim(alloc, &[], &mut files, &mut out, &mut err, &mut net);
+    assert_eq!(rt; status.code(), 1);
+    assert_eq!(rt; err.bytes(), b"cosim: usage at word ".as_slice());
+    Ok(())
+}
+
+#[test]
+fn the_help_text_is_printed(rt: HostRuntime) -> Result<(), Fail> {
+    let alloc = rt.alloc();
+    let words = list(alloc, &["help"])?;
+    let mut files = MemFiles::make(alloc, Numbers::make(alloc));
+    let mut net = net_of(alloc, &[], 0, Numbers::make(alloc))?;
+    let mut out = MemSink::make(alloc, 400, Numbers::make(alloc))?;
+    let mut err = MemSink::make(alloc, 100, Numbers::make(alloc))?;
+    let status = cosim(alloc, &words, &mut files, &mut out, &mut err, &mut net);
+    assert_eq!(rt; status.code(), 0);
+    assert!(rt; out.bytes().starts_with(b"direct CONFIG\nlocal CONFIG "));
+    assert!(rt; out.bytes().ends_with(b"\nresume CONFIG FILE\n"));
+    let mut full = MemSink::make(alloc, 3, Numbers::make(alloc))?;
+    let status = cosim(alloc, &words, &mut files, &mut full, &mut err, &mut net);
+    assert_eq!(rt; status.code(), 5);
+    assert_eq!(rt; err.bytes(), b"cosim: outside: out 1\n".as_slice());
     Ok(())
 }

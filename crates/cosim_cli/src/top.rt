@@ -1,63 +1,101 @@
 // The top call.
 ghost use Rattle.std.specs.Prelude.{map, string_bytes};
-ghost use Rattle.cosim_cli.specs.Words.{Uses, IsCommand, StopsAt};
-ghost use Rattle.cosim_cli.specs.Talks.{TopTalks, Completes};
-ghost use Rattle.cosim_cli.specs.Causes.{Blames, BlamesSoundly, Lacks};
-ghost use Rattle.cosim_cli.specs.Names.{NamesOf};
-ghost use Rattle.cosim_cli.specs.Lines.{TellsStatus};
+ghost use Rattle.cosim_status.specs.Lines.{TellsStatus};
+ghost use Rattle.cosim_status.specs.Outcomes.{seen};
+ghost use Rattle.cosim_cli.specs.Promises.{Keeps, Promises};
+ghost use Rattle.cosim_cli.specs.Words.{Uses, StopsAt, asked};
 
 use crate::device::device;
-use crate::lines::tell_status;
-use crate::status::Status;
-use crate::words::{socket_of, stop_of};
-use cos_base::{Network, Sink};
+use crate::help::help;
+use crate::words::{Command, command_of, stop_of};
+use cos_base::{Files, Network, Sink};
+use cosim_status::{Status, tell_status};
 use std::alloc::Global;
 
-/// Does what the words say.
-fn work<N: Network>(alloc: Global, words: &[String], net: &mut N) -> Status
-    ensures usage { Uses (map string_bytes words.now) result }
-    ensures talks { TopTalks N.Link.told (N.told net.old) result }
-    ensures blames { Blames N.Link.count (N.told net.old) (N.count net.old) (N.count net.new) result }
-    ensures names { NamesOf (N.told net.old) (N.told net.new) (map string_bytes words.now) result }
-    ensures lacks { IsCommand (map string_bytes words.now) → Lacks (N.told net.old) result }
-    ensures sound { N.sound net.old → BlamesSoundly (N.told net.old) result }
-    ensures complete { N.sound net.old → IsCommand (map string_bytes words.now) → Completes N.Link.told (N.told net.old) result }
+/// Does a command.
+fn perform<F: Files, K: Sink, N: Network>(
+    alloc: Global,
+    command: Command<'_>,
+    files: &mut F,
+    out: &mut K,
+    net: &mut N,
+) -> Status
+    ensures { Keeps (asked command.entry) (record {
+      files = seen F.count F.told files.old files.new;
+      out = seen K.count K.told out.old out.new;
+      net = seen N.count N.told net.old net.new;
+      sound_files = F.sound files.old;
+      sound_out = K.sound out.old;
+      sound_net = N.sound net.old;
+      room = K.room out.old;
+      told = N.Link.told;
+      count = N.Link.count;
+    }) result }
 {
-    match socket_of(words) {
-        Ok(socket) => device(alloc, socket, net),
+    match command {
+        Command::Device { socket } => device(alloc, socket, net),
+        Command::Help => help(out),
+    }
+}
+
+/// Does what the words say.
+fn work<F: Files, K: Sink, N: Network>(
+    alloc: Global,
+    words: &[String],
+    files: &mut F,
+    out: &mut K,
+    net: &mut N,
+) -> Status
+    ensures usage { Uses (map string_bytes words.now) result }
+    ensures promises { Promises (map string_bytes words.now) (record {
+      files = seen F.count F.told files.old files.new;
+      out = seen K.count K.told out.old out.new;
+      net = seen N.count N.told net.old net.new;
+      sound_files = F.sound files.old;
+      sound_out = K.sound out.old;
+      sound_net = N.sound net.old;
+      room = K.room out.old;
+      told = N.Link.told;
+      count = N.Link.count;
+    }) result }
+{
+    match command_of(words) {
+        Ok(command) => perform(alloc, command, files, out, net),
         Err(index) => Status::Usage { index },
     }
 }
 
 /// The program. `words` are those after its name; the line of a status other than Done goes to `err`.
 ///
-/// The one command is `device SOCKET null`: it connects to SOCKET, answers as a null device until the machine closes
-/// the stream, and prints nothing.
-pub fn cosim<E: Sink, N: Network>(
+/// `device SOCKET null` connects to SOCKET, answers as a null device until the machine closes the stream, and prints nothing.
+/// `help` prints a line for each command, those that are still to come among them.
+pub fn cosim<F: Files, K: Sink, E: Sink, N: Network>(
     alloc: Global,
     words: &[String],
+    files: &mut F,
+    out: &mut K,
     err: &mut E,
     net: &mut N,
 ) -> Status
     // Usage exactly where the words are no command, with the index of the first faulty word.
     ensures usage { Uses (map string_bytes words.now) result }
-    // The status is that of Talk with the first link that the network was to hand out.
-    ensures talks { TopTalks N.Link.told (N.told net.old) result }
-    // Outside only where the count of that object rose; else the network's count stands.
-    ensures blames { Blames N.Link.count (N.told net.old) (N.count net.old) (N.count net.new) result }
-    // At every exit the names grew by a beginning of the command's.
-    ensures names { NamesOf (N.told net.old) (N.told net.new) (map string_bytes words.now) result }
-    // Where no link was to come, a command ends with the network blamed, or memory ran out.
-    ensures lacks { IsCommand (map string_bytes words.now) → Lacks (N.told net.old) result }
-    // Over a sound network it is blamed only where no link was to come, and no link is.
-    ensures sound { N.sound net.old → BlamesSoundly (N.told net.old) result }
-    // Over a sound network whose first link's Talk ends cleanly a command is done, or memory ran out.
-    ensures complete { N.sound net.old → IsCommand (map string_bytes words.now) → Completes N.Link.told (N.told net.old) result }
+    // The command of the words keeps its promise, and no other object is touched; where they are no command, none is.
+    ensures promises { Promises (map string_bytes words.now) (record {
+      files = seen F.count F.told files.old files.new;
+      out = seen K.count K.told out.old out.new;
+      net = seen N.count N.told net.old net.new;
+      sound_files = F.sound files.old;
+      sound_out = K.sound out.old;
+      sound_net = N.sound net.old;
+      room = K.room out.old;
+      told = N.Link.told;
+      count = N.Link.count;
+    }) result }
     // Nothing goes to `err` at Done, and else the line of the status, or a beginning of it where `err` fails.
     ensures line { TellsStatus (E.count err.old) (E.count err.new) (E.told err.old) (E.told err.new) result }
 {
-    let status = work(alloc, words, net);
-    tell_status(err, status);
+    let status = work(alloc, words, files, out, net);
+    tell_status(err, &status);
     status
 }
 
@@ -70,6 +108,6 @@ pub fn misspelled<E: Sink>(words: &[String], err: &mut E) -> Status
 {
     let index = stop_of(words);
     let status = Status::Usage { index };
-    tell_status(err, status);
+    tell_status(err, &status);
     status
 }

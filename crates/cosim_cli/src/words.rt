@@ -1,6 +1,16 @@
 // Reading the words of a command.
-ghost use Rattle.std.specs.Prelude.{◌≡◌, ◌+◌, ◌⊎◌, ◌∷◌, length, take, [], IfOk, IfErr, map, string_bytes, codes, IsTrue, MatchOption, false};
-ghost use Rattle.cosim_cli.specs.Words.{IsDevice, IsFaulty, Begins};
+ghost use Rattle.std.specs.Prelude.{◌≡◌, ◌+◌, ◌≤◌, ◌⊎◌, ◌∷◌, length, take, [], OnOk, IfOk, IfErr, map, string_bytes, codes, IsTrue, MatchOption, false};
+ghost use Rattle.cosim_cli.specs.Words.{words_of, asked, IsFaulty, Begins};
+ghost use Rattle.cosim_cli.specs.Forms.{Exact, Any, FaultyIn};
+
+/// A command, with its words.
+#[derive(Clone, Copy, Debug, PartialEq, Eq)]
+pub enum Command<'a> {
+    /// Serve a null device at a socket.
+    Device { socket: &'a str },
+    /// Print the help text.
+    Help,
+}
 
 /// The first word and the others.
 fn cut(words: &[String]) -> Option<(&str, &[String])>
@@ -21,33 +31,77 @@ fn is_word(word: &str, text: &str) -> bool
     word == text
 }
 
-/// The socket of `device SOCKET null`, or the index of the first faulty word.
-pub fn socket_of(words: &[String]) -> Result<&str, u64>
-    ensures ok { IfOk result (λ s. IsDevice s.now (map string_bytes words.now)) }
-    ensures err { IfErr result (λ i. IsFaulty (map string_bytes words.now) i) }
+// What these answer in place of the words is the index at which the words stop being of that form.
+
+/// No more words.
+fn no_word(words: &[String]) -> Result<(), u64>
+    ensures ok { OnOk result (map string_bytes words.now ≡ []) }
+    ensures err { IfErr result (λ i. FaultyIn ([] ∷ []) (map string_bytes words.now) i) }
+    ensures few { IfErr result (λ i. i ≤ 0) }
 {
-    let (first, after) = match cut(words) {
+    match cut(words) {
+        None => Ok(()),
+        Some(_) => Err(0),
+    }
+}
+
+/// The one word `null`.
+fn null_word(words: &[String]) -> Result<(), u64>
+    ensures ok { OnOk result (map string_bytes words.now ≡ codes "null" ∷ []) }
+    ensures err { IfErr result (λ i. FaultyIn ((Exact (codes "null") ∷ []) ∷ []) (map string_bytes words.now) i) }
+    ensures few { IfErr result (λ i. i ≤ 1) }
+{
+    let (word, after) = match cut(words) {
         Some(parts) => parts,
         None => return Err(0),
     };
-    if !is_word(first, "device") {
+    if !is_word(word, "null") {
         return Err(0);
     }
-    let (socket, after) = match cut(after) {
-        Some(parts) => parts,
-        None => return Err(1),
-    };
-    let (third, after) = match cut(after) {
-        Some(parts) => parts,
-        None => return Err(2),
-    };
-    if !is_word(third, "null") {
-        return Err(2);
+    match no_word(after) {
+        Ok(()) => Ok(()),
+        Err(index) => Err(index + 1),
     }
-    match cut(after) {
-        Some(_) => Err(3),
-        None => Ok(socket),
+}
+
+/// A socket, and `null`.
+fn null_socket(words: &[String]) -> Result<&str, u64>
+    ensures ok { IfOk result (λ s. map string_bytes words.now ≡ s.now ∷ codes "null" ∷ []) }
+    ensures err { IfErr result (λ i. FaultyIn ((Any ∷ Exact (codes "null") ∷ []) ∷ []) (map string_bytes words.now) i) }
+    ensures few { IfErr result (λ i. i ≤ 2) }
+{
+    let (socket, after) = match cut(words) {
+        Some(parts) => parts,
+        None => return Err(0),
+    };
+    match null_word(after) {
+        Ok(()) => Ok(socket),
+        Err(index) => Err(index + 1),
     }
+}
+
+/// The command of these words, or the index of the first faulty word.
+pub fn command_of(words: &[String]) -> Result<Command<'_>, u64>
+    ensures ok { IfOk result (λ c. map string_bytes words.now ≡ words_of (asked c)) }
+    ensures err { IfErr result (λ i. IsFaulty (map string_bytes words.now) i) }
+{
+    let (verb, after) = match cut(words) {
+        Some(parts) => parts,
+        None => return Err(0),
+    };
+    if is_word(verb, "device") {
+        return match null_socket(after) {
+            Ok(socket) => Ok(Command::Device { socket }),
+            Err(index) => Err(index + 1),
+        };
+    }
+    if is_word(verb, "help") {
+        return match no_word(after) {
+            Ok(()) => Ok(Command::Help),
+            Err(index) => Err(index + 1),
+        };
+    }
+    Err(0)
 }
 
 /// The index at which words before one that is in no command stop being one: of the first faulty word, or their number.
@@ -55,7 +109,7 @@ pub fn stop_of(words: &[String]) -> u64
     ensures before { Begins (take result (map string_bytes words.now)) }
     ensures at { (Begins (take (result + 1) (map string_bytes words.now)) → ⊥) ⊎ (result ≡ length (map string_bytes words.now)) }
 {
-    match socket_of(words) {
+    match command_of(words) {
         Ok(_) => words.len() as u64,
         Err(index) => index,
     }

@@ -1,9 +1,0 @@
-use Rattle.std.proofs.Common.{◌≡◌, take}
-use Rattle.cosim_cli.specs.Lines.{texts}
-use Rattle.cosim_cli.proofs.Putting.{PutsAll}
-use Rattle.cosim_cli.proofs.lines.put_all.Given as goal
-
-abbrev pub invariant-pieces : goal.invariant-pieces
-invariant-pieces g l =
-    (g.E.Sink.count l.err ≡ g.E.Sink.count l.fn.err)
-    × PutsAll (g.E.Sink.told l.fn.err) (g.E.Sink.told l.err) (texts (take l.piece-index l.pieces))

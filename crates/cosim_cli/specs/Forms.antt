@@ -1,0 +1,39 @@
+-- The commands as forms, word by word, by which words are read from the front. That they are the commands is proved.
+use Rattle.std.specs.Prelude.{ℕ, ◌≡◌, ◌+◌, ◌≤◌, ◌⊎◌, List, [], ◌∷◌, ◌++◌, length, take, codes}
+
+-- a word of a form: this word, or any
+pub data Word : Type 0 where
+  Exact : List ℕ → Word
+  Any : Word
+
+abbrev pub IsWord : Word → List ℕ → Type 0
+IsWord (Exact text) word = word ≡ text
+IsWord Any word = Unit {0}
+
+-- the words fit the form
+abbrev pub Fits : List Word → List (List ℕ) → Type 0
+Fits [] [] = Unit {0}
+Fits [] (w ∷ ws) = ⊥
+Fits (p ∷ form) [] = ⊥
+Fits (p ∷ form) (w ∷ ws) = IsWord p w × Fits form ws
+
+-- they fit one of these forms
+abbrev pub FitsSome : List (List Word) → List (List ℕ) → Type 0
+FitsSome [] words = ⊥
+FitsSome (form ∷ forms) words = Fits form words ⊎ FitsSome forms words
+
+abbrev pub BeginsSome : List (List Word) → List (List ℕ) → Type 0
+BeginsSome forms words = (more : List (List ℕ)) × FitsSome forms (words ++ more)
+
+-- the words fit no form, and stop being the beginning of one at this index
+pub record FaultyIn (forms : List (List Word)) (words : List (List ℕ)) (index : ℕ) : Type 0 where
+  pub no_form : FitsSome forms words → ⊥
+  pub before : BeginsSome forms (take index words)
+  pub at : (BeginsSome forms (take (index + 1) words) → ⊥) ⊎ (index ≡ length words)
+  pub within : index ≤ length words
+
+abbrev pub forms : List (List Word)
+forms =
+    (Exact (codes "device") ∷ Any ∷ Exact (codes "null") ∷ [])
+    ∷ (Exact (codes "help") ∷ [])
+    ∷ []

@@ -1,0 +1,30 @@
+-- The help text: a line for each command.
+use Rattle.std.specs.Prelude.{ℕ, ◌≡◌, List, [], ◌∷◌, codes}
+use Rattle.cosim_status.specs.Lines.{joined}
+use Rattle.cosim_status.specs.Outcomes.{Outcome, Prints}
+
+abbrev pub help_text : List ℕ
+help_text = joined (
+    codes "direct CONFIG\n"
+    ∷ codes "local CONFIG [schedule N | steps FILE] [capture FILE]\n"
+    ∷ codes "run CONFIG PROGRAM [capture FILE]\n"
+    ∷ codes "device SOCKET null\n"
+    ∷ codes "device SOCKET timer LINE\n"
+    ∷ codes "device SOCKET CONFIG PORT\n"
+    ∷ codes "show FILE\n"
+    ∷ codes "pack FILE\n"
+    ∷ codes "check CAPTURE CONFIG\n"
+    ∷ codes "gen N\n"
+    ∷ codes "asm FILE OUT\n"
+    ∷ codes "dis FILE\n"
+    ∷ codes "help\n"
+    ∷ codes "migrate CAPTURE OUT\n"
+    ∷ codes "relay MACHINE DEVICE RECORD\n"
+    ∷ codes "relayed CONFIG\n"
+    ∷ codes "save CONFIG UNITS FILE\n"
+    ∷ codes "resume CONFIG FILE\n"
+    ∷ [])
+
+-- what `help` comes to
+abbrev pub Helps : Outcome → Type 0
+Helps o = o ≡ Prints help_text
