@@ -143,7 +143,11 @@ pub fn is_tight(body: &[u8], carries: bool) -> bool
     ensures { IsTrue result ↔ ReadsTight (bit (field 28 8 body.now) 2) carries body.now }
 {
     let size = body.len() as u64;
-    let count = if carries { u64::from(u32_at(body, 24)) } else { 0 };
+    let count = if carries {
+        u64::from(u32_at(body, 24))
+    } else {
+        0
+    };
     if !is_extended(u64_at(body, 8)) {
         return size == 38 + count;
     }

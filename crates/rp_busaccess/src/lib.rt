@@ -7,6 +7,8 @@
 mod bus;
 mod fault;
 mod layout;
+#[cfg(test)]
+mod tests;
 mod writing;
 
 pub use bus::BusAccess;

@@ -11,6 +11,8 @@ mod fault;
 mod hello;
 mod interrupt;
 mod sync;
+#[cfg(test)]
+mod tests;
 
 pub use caps::{caps_of, common};
 pub use cfg::Cfg;
