@@ -1,19 +1,20 @@
 -- What reading the front of bytes shows of them.
-use Rattle.std.proofs.Common.{◌≡◌, ◌⊎◌, inl, inr, ℕ, ◌+◌, ◌<◌, ◌≤◌, Bool, List, ◌++◌, length, take, drop, refl, sym, ap, ◌∙◌, arith, subst}
+use Rattle.std.proofs.Common.{◌≡◌, inl, inr, ℕ, ◌+◌, ◌<◌, ◌≤◌, Bool, List, length, take, drop, refl, sym, ap, ◌∙◌, arith}
 use Rattle.std.proofs.lemmas.Bool.Decides.{nat_tests}
-use Rattle.std.specs.Prelude.{is_some, nat_le, true, false, Option, Some, None, Result, Ok, Err}
+use Rattle.std.specs.Prelude.{is_some, nat_le, true, false, Some, None, Err}
 use Rattle.std.proofs.lemmas.List.{length-take, take-append-drop}
 use Rattle.cosim_model.specs.Packets.{Packet}
 use Rattle.cosim_model.specs.Packets.Decoded.{Valid, Malformed}
 use Rattle.rp_packet.specs.declared.fault.Cause.{Cause}
 use Rattle.rp_packet.specs.declared.fault.ReadFault.{ReadFault}
 use Rattle.rp_packet.specs.declared.fault.ReadFault.TheVariants as read
-use Rattle.rp_packet.specs.declared.packet.Packet.{Packet as HeldPacket}
-use Rattle.rp_packet.specs.Values.{value_of}
 use Rattle.rp_packet.specs.Spelling.{Spells}
-use Rattle.rp_packet.specs.Refusals.{place_of, len_at, early_refusal, late_refusal, judged, first}
-use Rattle.rp_packet.specs.Streams.{Unfinished, Refuses, Bad}
+use Rattle.rp_packet.specs.Refusals.{place_of, cmd_at, len_at, early_refusal, late_refusal, judged, first}
+use Rattle.rp_packet.specs.Streams.{Unfinished}
 use Rattle.rp_packet.specs.Reading.{IsOnePacket, fault_at, IsReadFault, IsEarlyFault}
+use Rattle.rp_header.specs.HeaderLaws.{refusal-lawful}
+use Rattle.rp_packet.specs.ReadingLaws.{header-lawful}
+use Rattle.rp_packet.specs.Walks.{first-nothing}
 use Rattle.rp_packet.specs.StreamLaws.{front-stays, early-stays, late-stays, first-early, first-whole, first-unfinished, first-spelled}
 use Rattle.rp_framing.specs.Framing.{IsFront}
 
@@ -83,3 +84,14 @@ front-late b n (read.Malformed f) long early is within fault =
     ] in
     (fault-is f.start f.place f.cause fault.0 bad.at, found.0, found.1)
 front-late b n read.NoMemory long early is within fault = tt
+
+-- what isn't whole is shorter than the longest packet
+unfinished-few : (b : List ℕ) → Unfinished b → length b < 65556
+unfinished-few b is =
+    elim is as (λ _. length b < 65556) [
+      | inl short ↦ omega arith
+      | inr more ↦ let lawful = refusal-lawful (cmd_at b) (len_at b) (header-lawful b more.1) in omega (arith, more.2, lawful.1)
+    ]
+
+pub first-few : (b : List ℕ) → first b ≡ None → length b < 65556
+first-few b nothing = unfinished-few b (first-nothing b nothing)

@@ -1,7 +1,7 @@
-ghost use Rattle.std.specs.Prelude.{◌≡◌, ◌+◌, ◌-◌, ◌*◌, ◌≤◌, [], None, Some, false, length, drop, min, OnOk, OnErr, IfErr, IfOk, IsOk};
+ghost use Rattle.std.specs.Prelude.{◌≡◌, ◌+◌, ◌*◌, ◌≤◌, ◌++◌, ℕ, List, [], None, false, length, drop, min, OnOk, OnErr, IfErr};
 
 use crate::fault::{FrameFault, Truncated};
-use crate::front::{front_of, is_whole};
+use crate::front::{behind, front_of, is_whole};
 use cos_base::{NoMemory, Octets};
 use rp_packet::{Packet, PacketFault, ReadFault};
 use std::alloc::Global;
@@ -25,17 +25,20 @@ pub struct Framer {
 
 impl Model for Framer {
     ghost use Rattle.std.specs.Prelude.{◌+◌, ◌≤◌, length, drop};
-    ghost use Rattle.rp_framing.specs.Framing.{Frames};
+    ghost use Rattle.rp_framing.specs.Framing.{Frames, IsKept};
 
     ghost Value = { Frames };
 
     ghost view = { λ f. record { held = drop f.begin f.bytes.bytes; taken = f.taken; room = f.bytes.spare + f.begin; kept = f.kept } };
 
-    ghost invariant = { λ f. f.begin ≤ length f.bytes.bytes };
+    ghost invariant = { λ f. (f.begin ≤ length f.bytes.bytes) × IsKept f.kept f.taken (drop f.begin f.bytes.bytes) };
 }
 
 impl Framer {
-    ghost use Rattle.rp_framing.specs.Framing.{Frames, Feeds, Nexts, is_ready, counted};
+    ghost use Rattle.cosim_model.specs.Packets.{Packet as PacketValue};
+    ghost use Rattle.rp_header.specs.Numbers.{AreBytes};
+    ghost use Rattle.rp_framing.specs.Framing.{Frames, Feeds, Nexts, WaitsForMore, is_ready};
+    ghost use Rattle.rp_framing.specs.Cuts.{Taken, NextOf, StaysAfter, GrowsBy, EndsWith};
 
     /// It takes no memory.
     pub fn make(alloc: Global) -> Framer
@@ -53,6 +56,7 @@ impl Framer {
     /// Appends bytes of the stream. After a fault of `next` it drops them.
     pub fn feed(&mut self, bytes: &[u8]) -> Result<(), NoMemory>
         ensures ok { OnOk result (Feeds bytes.now self.old self.new) }
+        ensures any_cut { OnOk result ((b : List ℕ) → GrowsBy bytes.now b self.old self.new) }
         ensures err { OnErr result (self.new ≡ self.old) }
     {
         if self.kept.is_some() {
@@ -65,7 +69,8 @@ impl Framer {
     /// Appends bytes of the stream in the room that there is. After a fault of `next` it drops them. It takes no memory.
     pub fn feed_spare(&mut self, bytes: &[u8])
         requires { length bytes.now ≤ self.old.room }
-        ensures { Feeds bytes.now self.old self.new }
+        ensures feeds { Feeds bytes.now self.old self.new }
+        ensures any_cut { (b : List ℕ) → GrowsBy bytes.now b self.old self.new }
     {
         if self.kept.is_some() {
             return;
@@ -83,6 +88,10 @@ impl Framer {
         ensures grows { self.old.room ≤ self.new.room }
         ensures err { OnErr result (self.new ≡ self.old) }
     {
+        let all = self.bytes.len();
+        if all >= ROOM || self.bytes.spare() >= ROOM - all {
+            return Ok(());
+        }
         self.close_up();
         let held = self.bytes.len();
         if held < ROOM {
@@ -100,12 +109,24 @@ impl Framer {
 
     /// The next packet, if it is whole. A fault is answered again from then on; want of memory leaves the packet held.
     pub fn next(&mut self) -> Result<Option<Packet>, FrameFault>
-        ensures { Nexts self.old self.new result }
+        ensures nexts { Nexts self.old self.new result }
+        ensures few { WaitsForMore self.new result }
+        ensures any_cut { (given : List PacketValue) (b : List ℕ) → Taken given b self.old → NextOf given (b ++ self.old.held) result }
+        ensures stays { (given : List PacketValue) (b : List ℕ) → Taken given b self.old → StaysAfter given b self.old self.new result }
     {
-        if let Some(fault) = self.kept {
-            return Err(FrameFault::Malformed(fault));
+        match self.kept {
+            Some(fault) => Err(FrameFault::Malformed(fault)),
+            None => self.take_front(),
         }
-        let (_, held) = self.bytes.as_slice().split_at(self.begin);
+    }
+
+    /// Takes the packet that stands whole at the front of what is held. A fault there is kept.
+    fn take_front(&mut self) -> Result<Option<Packet>, FrameFault>
+        requires { self.old.kept ≡ None }
+        ensures nexts { Nexts self.old self.new result }
+        ensures bytes { AreBytes self.old.held }
+    {
+        let held = behind(self.bytes.as_slice(), self.begin);
         match front_of(self.alloc, held) {
             Ok(None) => Ok(None),
             Ok(Some((packet, size))) => {
@@ -130,8 +151,7 @@ impl Framer {
     pub fn ready(&self) -> bool
         ensures { result ≡ is_ready self.now }
     {
-        let (_, held) = self.bytes.as_slice().split_at(self.begin);
-        self.kept.is_some() || is_whole(held)
+        self.kept.is_some() || is_whole(behind(self.bytes.as_slice(), self.begin))
     }
 
     /// What the end of the stream means: bytes of an unfinished packet are a fault. It takes no memory.
@@ -139,6 +159,7 @@ impl Framer {
         requires { is_ready self.now ≡ false }
         ensures ok { OnOk result (self.now.held ≡ []) }
         ensures truncated { IfErr result (λ t. (t.start ≡ self.now.taken) × (t.held ≡ length self.now.held) × (1 ≤ t.held)) }
+        ensures any_cut { (given : List PacketValue) (b : List ℕ) → Taken given b self.now → EndsWith given (b ++ self.now.held) result }
     {
         let held = self.bytes.len() - self.begin;
         if held == 0 {

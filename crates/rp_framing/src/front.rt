@@ -1,9 +1,19 @@
-ghost use Rattle.std.specs.Prelude.{◌≡◌, is_some};
+ghost use Rattle.std.specs.Prelude.{◌≡◌, ◌≤◌, length, drop, is_some};
+ghost use Rattle.rp_header.specs.Numbers.{AreBytes};
 ghost use Rattle.rp_packet.specs.Refusals.{first};
 ghost use Rattle.rp_framing.specs.Framing.{IsFront};
 
 use rp_packet::{Packet, ReadFault, packet_len};
 use std::alloc::Global;
+
+/// The bytes behind the first ones.
+pub fn behind(bytes: &[u8], begin: usize) -> &[u8]
+    requires { begin ≤ length bytes.now }
+    ensures rest { result.now ≡ drop begin bytes.now }
+    ensures bytes { AreBytes result.now }
+{
+    bytes.split_at(begin).1
+}
 
 /// The packet that stands whole at the front, and its size.
 pub fn front_of(alloc: Global, held: &[u8]) -> Result<Option<(Packet, usize)>, ReadFault>

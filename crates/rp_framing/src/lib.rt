@@ -1,9 +1,15 @@
-//! Packets out of a stream of bytes, however it was cut.
+//! Packets out of a stream of bytes, however it was cut, and over a link.
 #![tactic(auto)]
 
 mod fault;
 mod framer;
 mod front;
+mod receiving;
+mod sending;
+#[cfg(test)]
+mod tests;
 
 pub use fault::{FrameFault, Truncated};
 pub use framer::Framer;
+pub use receiving::{ReceiveFault, receive};
+pub use sending::{SendFault, send};

@@ -1,4 +1,4 @@
-use Rattle.std.proofs.Common.{◌≡◌, sym, subst, List, ℕ}
+use Rattle.std.proofs.Common.{sym, subst, List, ℕ}
 use Rattle.rp_packet.specs.Spelling.{Spells}
 use Rattle.rp_packet.specs.Values.{value_of}
 use Rattle.rp_packet.specs.Reading.{IsOnePacket, IsReadFault}
@@ -11,8 +11,8 @@ read-requires c =
 
 pub returns-in-Ok-read : goal.returns-in-Ok-read
 returns-in-Ok-read c =
-    front-packet c.args.held.now c.in-Ok.size (value_of c.in-Ok-read.packet) c.if-held-size.false
-    (subst (λ (b : List ℕ). Spells (value_of c.in-Ok-read.packet) b) c.split_at.ensures.front c.in-Ok-read.ensures.ok)
+    let spelled = subst (λ (b : List ℕ). Spells (value_of c.in-Ok-read.packet) b) c.split_at.ensures.front c.in-Ok-read.ensures.ok in
+    (front-packet c.args.held.now c.in-Ok.size (value_of c.in-Ok-read.packet) c.if-held-size.false spelled, spelled)
 
 pub returns-in-Err-read : goal.returns-in-Err-read
 returns-in-Err-read c =

@@ -1,4 +1,3 @@
-use Rattle.std.proofs.Common.{◌≡◌}
 use Rattle.rp_framing.specs.FrontLaws.{early-ready, whole-ready}
 use Rattle.rp_framing.proofs.front.is_whole.Goals as goal
 
