@@ -15,7 +15,8 @@ pub fn behind(bytes: &[u8], begin: usize) -> &[u8]
     bytes.split_at(begin).1
 }
 
-/// The packet that stands whole at the front, and its size.
+/// The packet that stands whole at the front of bytes, and its size in bytes; `None` where none is whole yet. A fault counts from
+/// the first of these bytes. The data are copied once.
 pub fn front_of(alloc: Global, held: &[u8]) -> Result<Option<(Packet, usize)>, ReadFault>
     ensures { IsFront held.now result }
 {

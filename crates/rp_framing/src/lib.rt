@@ -11,5 +11,6 @@ mod tests;
 
 pub use fault::{FrameFault, Truncated};
 pub use framer::Framer;
+pub use front::front_of;
 pub use receiving::{ReceiveFault, receive};
 pub use sending::{SendFault, send};
