@@ -1,0 +1,8 @@
+use Rattle.std.proofs.Common.{◌≡◌, ◌+◌, drop, get_or}
+use Rattle.sys_bus.specs.Maps.{shared_found}
+use Rattle.sys_bus.proofs.map.shared.Given as goal
+
+abbrev pub invariant-others : goal.invariant-others
+invariant-others l =
+    let x = get_or l.all l.a (record { base = 0; size = 0 }) in
+    shared_found l.a x (l.a + 1) (drop (l.a + 1) l.all) ≡ shared_found l.a x l.b (drop l.b l.all)

@@ -1,0 +1,7 @@
+use Rattle.std.proofs.Common.{ap, ◌∙◌, subst}
+use Rattle.sys_bus.specs.Locals.{AreAccesses, local_unit-is}
+use Rattle.sys_bus.proofs.rv_master.RvMasterMaster.issue.Goals as goal
+
+pub issue_beyond-requires-clause-access : goal.issue_beyond-requires-clause-access
+issue_beyond-requires-clause-access c =
+    subst AreAccesses (ap (λ p. p.1) c.in-Ok-Some.ensures.ok ∙ c.in-Ok-Some.field-0-is) (local_unit-is c.self.inside.machine)
