@@ -1,0 +1,5 @@
+use Rattle.cos_script.proofs.Fits.{script-fits}
+use Rattle.cos_script.proofs.master.ScriptMaster.make.Goals as goal
+
+pub invariant_of-result : goal.invariant_of-result
+invariant_of-result c = script-fits c.args.ports c.as_bytes.result.now c.in-Ok.steps.items c.in-Ok.ensures

@@ -1,0 +1,6 @@
+pub mod Numbers
+pub mod Lanes
+pub mod Steps
+pub mod Scripts
+pub mod Masters
+pub mod MasterLaws
