@@ -5,3 +5,11 @@ pub mod FirstLabels
 pub mod Reaches
 pub mod Commas
 pub mod Assembling
+pub mod Scans
+pub mod OneLine
+pub mod ReadNumbers
+pub mod ReadOperands
+pub mod ReadFormats
+pub mod NamedRows
+pub mod ReadBack
+pub mod OneMeaning

@@ -1,5 +1,5 @@
 -- The first line of a text and the rest of it.
-use Rattle.std.proofs.Common.{◌≡◌, ℕ, ◌+◌, ◌==◌, ◌≤◌, ◌<◌, Bool, true, false, List, [], ◌∷◌, Option, Some, None, unwrap_or, length, cond, refl, ap, ◌∙◌, arith}
+use Rattle.std.proofs.Common.{◌≡◌, ℕ, ◌+◌, ◌==◌, ◌≤◌, Bool, true, false, List, [], ◌∷◌, Option, Some, None, unwrap_or, length, cond, refl, ap, ◌∙◌, arith}
 use Rattle.rv_asm.specs.Texts.{lines, begun_with, before, after}
 
 lines-at : (b : Bool) (c : ℕ) (cs : List ℕ) → lines cs ≡ before 10 cs ∷ lines (unwrap_or (after 10 cs) []) → cond b ([] ∷ lines cs) (begun_with c (lines cs)) ≡ cond b [] (c ∷ before 10 cs) ∷ lines (unwrap_or (cond b (Some cs) (after 10 cs)) [])

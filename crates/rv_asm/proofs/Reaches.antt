@@ -1,9 +1,7 @@
 -- A label that was found is the target that its line gives.
-use Rattle.std.proofs.Common.{◌≡◌, ℕ, ◌^◌, ◌<◌, Bool, true, List, Option, Some, None, Result, Ok, Err, cond, refl, ap, sym, ◌∙◌}
-use Rattle.rv_asm.specs.declared.fault.Cause.{Cause}
+use Rattle.std.proofs.Common.{◌≡◌, ℕ, ◌^◌, ◌<◌, true, List, Option, Some, None, Err, cond, ap, sym, ◌∙◌}
 use Rattle.rv_asm.specs.declared.fault.Cause.TheVariants.{Syntax}
 use Rattle.rv_asm.specs.declared.labels.Place.{Place}
-use Rattle.rv_asm.specs.declared.numbers.Number.{Number}
 use Rattle.rv_asm.specs.Numbers.{kept_one, kept_number, number}
 use Rattle.rv_asm.specs.Texts.{is_name}
 use Rattle.rv_asm.specs.Programs.{Placed, first_with}

@@ -1,5 +1,5 @@
 -- Programs: the lines of a text with their numbers and addresses, and where a label stands.
-use Rattle.std.specs.Prelude.{ℕ, ◌+◌, ◌*◌, List, [], ◌∷◌, Option, Some, None, cond}
+use Rattle.std.specs.Prelude.{ℕ, ◌+◌, List, [], ◌∷◌, Option, Some, None, cond}
 use Rattle.std.specs.Str.{bytes_eq}
 use Rattle.rv_asm.specs.Texts.{lines, before, after, trim, is_name}
 

@@ -69,3 +69,7 @@ abbrev pub Assembled : List Placed → Result (List ℕ) AsmFault → Type 0
 Assembled lines (Ok words) = Assembles lines lines words
 Assembled lines (Err (Line number cause)) = FirstFault lines number cause
 Assembled lines (Err NoMemory) = Unit
+
+-- wherever its first word lies, the text assembles to this word alone
+abbrev pub MeansWord : List ℕ → ℕ → Type 0
+MeansWord text word = (origin : ℕ) → Assembled (program origin text) (Ok (word ∷ []))

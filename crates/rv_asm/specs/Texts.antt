@@ -1,5 +1,5 @@
 -- Lines of a text, and the parts of a line.
-use Rattle.std.specs.Prelude.{ℕ, ◌+◌, ◌==◌, ◌||◌, ◌&&◌, Bool, true, false, List, [], ◌∷◌, Option, Some, None, cond, nat_le, map}
+use Rattle.std.specs.Prelude.{ℕ, ◌==◌, ◌||◌, ◌&&◌, Bool, true, false, List, [], ◌∷◌, Option, Some, None, cond, nat_le, map}
 
 -- pieces, where one more byte stands before the first of them
 abbrev pub begun_with : ℕ → List (List ℕ) → List (List ℕ)

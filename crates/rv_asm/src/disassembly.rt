@@ -1,8 +1,9 @@
 //! Words and the lines that they are listed as.
 
-ghost use Rattle.std.specs.Prelude.{◌≡◌, ◌≤◌, ◌<◌, ◌+◌, ◌++◌, Option, OnErr, IfOk};
+ghost use Rattle.std.specs.Prelude.{◌≡◌, ◌≤◌, ◌<◌, ◌+◌, ◌++◌, ℕ, List, Option, OnErr, IfOk};
 ghost use Rattle.rv_table.specs.declared.instr.Instr.{Instr};
 ghost use Rattle.rv_table.specs.Coding.{Decodes};
+ghost use Rattle.rv_asm.specs.Statements.{MeansWord};
 ghost use Rattle.rv_asm.specs.Listings.{written, operand_list, instr_text, hex_digit, hex_digits, line_text};
 
 use crate::forms::addressed;
@@ -152,17 +153,11 @@ pub fn put_hex(out: &mut Octets, places: usize, number: u32)
     }
 }
 
-/// Appends the line that a word is listed as, with its line feed: the mnemonic, a blank, and the operands
-/// separated by a comma and a blank.
-///
-/// Numbers are decimal, and targets are distances in bytes. A control register that has a name stands by it. A word
-/// that is no instruction is listed as `.word`, in hexadecimal.
-pub fn disassemble(word: u32, out: &mut Octets) -> Result<(), NoMemory>
-    ensures line { IfOk result (λ done. (instr : Option Instr) × Decodes word instr
-        × (out.new.bytes ≡ out.old.bytes ++ line_text word instr)) }
-    ensures err { OnErr result (out.new ≡ out.old) }
+/// Appends the line that a word is listed as.
+fn put_line(out: &mut Octets, word: u32)
+    requires { ROOM ≤ out.old.spare }
+    ensures { (instr : Option Instr) × Decodes word instr × (out.new.bytes ≡ out.old.bytes ++ line_text word instr) }
 {
-    out.reserve(ROOM)?;
     match decode(word) {
         Some(instr) => put_instr(out, instr),
         None => {
@@ -171,5 +166,20 @@ pub fn disassemble(word: u32, out: &mut Octets) -> Result<(), NoMemory>
         }
     }
     out.push_spare(b"\n");
+}
+
+/// Appends the line that a word is listed as, with its line feed: the mnemonic, a blank, and the operands
+/// separated by a comma and a blank. The line assembles to the word.
+///
+/// Numbers are decimal, and targets are distances in bytes. A control register that has a name stands by it. A word
+/// that is no instruction is listed as `.word`, in hexadecimal.
+pub fn disassemble(word: u32, out: &mut Octets) -> Result<(), NoMemory>
+    ensures line { IfOk result (λ done. (instr : Option Instr) × Decodes word instr
+        × (out.new.bytes ≡ out.old.bytes ++ line_text word instr)) }
+    ensures assembles { IfOk result (λ done. (line : List ℕ) × (out.new.bytes ≡ out.old.bytes ++ line) × MeansWord line word) }
+    ensures err { OnErr result (out.new ≡ out.old) }
+{
+    out.reserve(ROOM)?;
+    put_line(out, word);
     Ok(())
 }

@@ -19,6 +19,8 @@ mod parts;
 mod readings;
 mod statements;
 mod targets;
+#[cfg(test)]
+mod tests;
 mod texts;
 
 pub use assembly::assemble;

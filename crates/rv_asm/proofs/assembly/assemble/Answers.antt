@@ -1,5 +1,4 @@
-use Rattle.std.proofs.Common.{◌≡◌, [], ◌∷◌, ◌++◌, List, ℕ, Option, Some, None, Result, Ok, ap, sym, ◌∙◌}
-use Rattle.rv_asm.specs.declared.fault.Cause.{Cause}
+use Rattle.std.proofs.Common.{◌≡◌, [], ◌∷◌, ◌++◌, List, ℕ, Option, Some, None, Ok, ap, sym, ◌∙◌}
 use Rattle.rv_asm.specs.Labelled.{lines_of}
 use Rattle.rv_asm.specs.Programs.{Placed, program}
 use Rattle.rv_asm.specs.Statements.{word_of_line}

@@ -1,5 +1,4 @@
 use Rattle.std.proofs.Common.{◌≡◌, ◌++◌, List, length}
-use Rattle.rv_asm.specs.Labelled.{lines_of}
 use Rattle.rv_asm.specs.Programs.{Placed, program}
 use Rattle.rv_asm.specs.Statements.{Assembles}
 use Rattle.rv_asm.specs.Views.{left}

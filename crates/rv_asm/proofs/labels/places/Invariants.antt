@@ -1,4 +1,4 @@
-use Rattle.std.proofs.Common.{◌≡◌, ◌∷◌, ◌++◌, List, ℕ, length, take, drop, nat_cmp}
+use Rattle.std.proofs.Common.{◌≡◌, ◌++◌, List, ℕ, length, nat_cmp}
 use Rattle.std.specs.BTreeMap.{get_by}
 use Rattle.std.specs.Cmp.Lexicographic.{slice_cmp}
 use Rattle.rv_asm.specs.Programs.{Placed, program, first_with}
