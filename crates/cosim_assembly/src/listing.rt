@@ -1,0 +1,60 @@
+//! The command `dis`.
+
+ghost use Rattle.std.specs.Prelude.{◌≡◌, ◌≤◌, ◌+◌, [], ◌∷◌, length, IfOk};
+ghost use Rattle.cosim_status.specs.Outcomes.{seen, Blames, Ends, MeetsOne, MeetsEach};
+ghost use Rattle.cosim_assembly.specs.Images.{words_of};
+ghost use Rattle.cosim_assembly.specs.Listings.{lines_of, DisComes};
+
+use cos_base::{Files, NoMemory, Octets, Sink};
+use cosim_status::{InputFault, Status, put_text, read_file};
+use rv_asm::disassemble;
+use std::alloc::Global;
+
+/// The first word of bytes, and the bytes after it.
+fn first_word(bytes: &[u8]) -> (u32, &[u8])
+    requires { 4 ≤ length bytes.now }
+    ensures words { words_of bytes.now ≡ result.0 ∷ words_of result.1.now }
+    ensures shorter { length result.1.now + 4 ≡ length bytes.now }
+{
+    let word = u32::from_le_bytes([bytes[0], bytes[1], bytes[2], bytes[3]]);
+    (word, &bytes[4..])
+}
+
+/// The lines of the words of bytes.
+fn lines_of(alloc: Global, bytes: &[u8]) -> Result<Octets, NoMemory>
+    ensures { IfOk result (λ text. text.bytes ≡ lines_of (words_of bytes.now)) }
+{
+    let mut text = Octets::make(alloc);
+    let mut rest = bytes;
+    'words: while 4 <= rest.len() {
+        let (word, after) = first_word(rest);
+        disassemble(word, &mut text)?;
+        rest = after;
+    }
+    Ok(text)
+}
+
+/// Prints the words of an image, a line each.
+///
+/// The file is read and listed before anything is printed. Memory holds its bytes and its lines.
+pub fn dis<F: Files, K: Sink>(alloc: Global, file: &str, files: &mut F, out: &mut K) -> Status
+    ensures blames { Blames (F.count files.old) (F.count files.new) (K.count out.old) (K.count out.new) result }
+    ensures ends { Ends (DisComes file.now (F.told files.old)) [] (seen F.count F.told files.old files.new)
+        (seen K.count K.told out.old out.new) result }
+    ensures sound { F.sound files.old → K.sound out.old → MeetsOne (DisComes file.now (F.told files.old)) (K.room out.old) result }
+    ensures complete { F.sound files.old → K.sound out.old → MeetsEach (DisComes file.now (F.told files.old)) (K.room out.old) result }
+{
+    let image = match read_file(files, file) {
+        Ok(image) => image,
+        Err(status) => return status,
+    };
+    if image.len() % 4 != 0 {
+        return Status::Input(InputFault::Words {
+            len: image.len() as u64,
+        });
+    }
+    match lines_of(alloc, image.as_slice()) {
+        Ok(text) => put_text(out, text.as_slice()),
+        Err(NoMemory) => Status::NoMemory,
+    }
+}
