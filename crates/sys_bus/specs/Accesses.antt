@@ -1,5 +1,5 @@
 -- What the access of a hart is: one, two or four bytes.
-use Rattle.std.specs.Prelude.{◌≡◌, ℕ, ◌^◌, ◌<◌, ◌⊎◌, false}
+use Rattle.std.specs.Prelude.{◌≡◌, ◌^◌, ◌<◌, ◌⊎◌, false}
 use Rattle.rv_core.specs.declared.hart.HartAccess.{HartAccess}
 
 pub record IsHartAccess (a : HartAccess) : Type 0 where

@@ -1,14 +1,11 @@
 -- The machine keeps the laws of masters.
-use Rattle.std.specs.Prelude.{◌≡◌, ℕ, ◌+◌, ◌-◌, ◌/◌, ◌%◌, ◌^◌, ◌<◌, ◌≤◌, ◌⊎◌, Bool, true, false, ◌&&◌, nat_le, nat_eq, if◌then◌else◌, List, [], ◌∷◌, length, Option, Some, None, refl}
-use Rattle.std.proofs.Common.{arith, ap, sym, ◌∙◌, inl, inr, subst}
+use Rattle.std.specs.Prelude.{◌≡◌, ℕ, ◌+◌, ◌-◌, ◌/◌, ◌^◌, ◌<◌, ◌⊎◌, Bool, true, false, ◌&&◌, nat_eq, if◌then◌else◌, List, [], ◌∷◌, length, Option, Some, None, refl}
+use Rattle.std.proofs.Common.{arith, ap, sym, inl, inr, subst}
 use Rattle.cosim_model.specs.declared.values.Bus.{Bus}
-use Rattle.cosim_model.specs.declared.values.Answer.{Answer}
 use Rattle.cosim_model.specs.Values.{all_on, bits_of}
 use Rattle.cosim_model.specs.Parts.{IsMaster, IsAccess, IsSize}
 use Rattle.rv_core.specs.declared.hart.HartAccess.{HartAccess}
 use Rattle.rv_core.specs.declared.issue.Waiting.{Waiting}
-use Rattle.rv_core.specs.Units.{applied, waiting_of}
-use Rattle.sys_ram.specs.Memory.{number_of, store_of}
 use Rattle.sys_ram.specs.MemoryLaws.{read_of-is, write_of-code}
 use Rattle.sys_bus.specs.declared.map.Window.{Window}
 use Rattle.sys_bus.specs.declared.machine.Machine.{Machine}
@@ -16,7 +13,6 @@ use Rattle.sys_bus.specs.declared.machine.Unfinished.{Unfinished}
 use Rattle.sys_bus.specs.Accesses.{IsHartAccess}
 use Rattle.sys_bus.specs.Locals.{AreAccesses, local_unit-is}
 use Rattle.sys_bus.specs.Maps.{MapState, holds, window_from}
-use Rattle.sys_bus.specs.Systems.{register_at, pending_of}
 use Rattle.sys_bus.specs.Units.{local_unit, bus_of, window_accessed, system_unit, accessed_beyond, beyond, unit_of, bus_awaited, rv_model}
 
 -- What is issued goes to a window, is an access, and enables every lane.

@@ -1,5 +1,5 @@
 -- The address map: its parts, and the first fault that keeps windows from being one.
-use Rattle.std.specs.Prelude.{◌≡◌, ℕ, ◌+◌, ◌%◌, Bool, true, false, ◌&&◌, ◌||◌, not, nat_lt, nat_le, nat_eq, if◌then◌else◌, List, [], ◌∷◌, length, Option, Some, None, Result, Ok, Err}
+use Rattle.std.specs.Prelude.{◌≡◌, ℕ, ◌+◌, ◌%◌, Bool, ◌&&◌, ◌||◌, not, nat_lt, nat_le, nat_eq, if◌then◌else◌, List, [], ◌∷◌, Option, Some, None, Result, Ok, Err}
 use Rattle.sys_bus.specs.declared.map.Window.{Window}
 use Rattle.sys_bus.specs.declared.map.Part.{Part}
 use Rattle.sys_bus.specs.declared.map.MapFault.{MapFault}

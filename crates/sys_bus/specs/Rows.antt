@@ -2,7 +2,7 @@
 use Rattle.std.specs.Prelude.{◌≡◌, ℕ, ◌%◌, ◌^◌, ◌<◌, ◌⊎◌, Bool, true, false, if◌then◌else◌, nat_eq, Option, Some, None, refl}
 use Rattle.std.proofs.Common.{arith, inl, inr, subst}
 use Rattle.rv_table.specs.declared.instr.Instr.{Instr}
-use Rattle.rv_table.specs.declared.instr.Instr.TheVariants.{Lui, Auipc, Jal, Jalr, Beq, Bne, Blt, Bge, Bltu, Bgeu, Lb, Lh, Lw, Lbu, Lhu, Sb, Sh, Sw, Addi, Slti, Sltiu, Xori, Ori, Andi, Fence, Csrrw, Csrrs, Csrrc, Csrrwi, Csrrsi, Csrrci, Slli, Srli, Srai, Add, Sub, Sll, Slt, Sltu, Xor, Srl, Or, And, Sra, Ecall, Ebreak, Mret, Wfi}
+use Rattle.rv_table.specs.declared.instr.Instr.TheVariants.{Jal, Jalr, Beq, Bne, Blt, Bge, Bltu, Bgeu, Lb, Lh, Lw, Lbu, Lhu, Sb, Sh, Sw, Csrrw, Csrrs, Csrrc, Csrrwi, Csrrsi, Csrrci}
 use Rattle.rv_table.specs.Decoded.{decoded}
 use Rattle.rv_traps.specs.Registers.{read_of}
 use Rattle.rv_traps.specs.Traps.{interrupt_of}
@@ -12,8 +12,8 @@ use Rattle.rv_core.specs.declared.effect.Effect.TheVariants.{Goes, Updates, Trap
 use Rattle.rv_core.specs.declared.effect.Update.{Update}
 use Rattle.rv_core.specs.declared.effect.Update.TheVariants.{Keep, Write, Set, Clear}
 use Rattle.rv_core.specs.declared.issue.Waiting.{Waiting}
-use Rattle.rv_core.specs.Operations.{reg, add, negated, is_less_signed, is_less_unsigned, low_bits}
-use Rattle.rv_core.specs.Rows.{performed, jumps, branches, loads, stores, updates, updates_value, updates_csr, unless_zero, is_allowed}
+use Rattle.rv_core.specs.Operations.{reg, add}
+use Rattle.rv_core.specs.Rows.{performed, jumps, branches, loads, stores, updates, updates_value, updates_csr, is_allowed}
 use Rattle.rv_core.specs.Units.{applied, effect_of, interrupted, fetched_effect, executed, waiting_of}
 use Rattle.sys_bus.specs.Accesses.{IsHartAccess}
 

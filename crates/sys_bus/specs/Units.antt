@@ -1,9 +1,7 @@
 -- One unit of the machine: that of its hart over RAM, the system block and the windows.
-use Rattle.std.specs.Prelude.{◌≡◌, ℕ, zero, suc, ◌-◌, ◌/◌, ◌%◌, ◌^◌, ◌<◌, ◌⊎◌, Bool, true, false, ◌&&◌, nat_eq, if◌then◌else◌, List, length, replicate, Option, Some, None}
-use Rattle.cosim_model.specs.declared.values.Access.{Access}
+use Rattle.std.specs.Prelude.{ℕ, ◌-◌, ◌/◌, ◌%◌, ◌^◌, Bool, true, false, ◌&&◌, nat_eq, if◌then◌else◌, List, length, replicate, Option, Some, None}
 use Rattle.cosim_model.specs.declared.values.Answer.{Answer}
 use Rattle.cosim_model.specs.declared.values.Bus.{Bus}
-use Rattle.cosim_model.specs.declared.values.Closing.{Closing}
 use Rattle.cosim_model.specs.Parts.{MasterModel}
 use Rattle.rv_table.specs.declared.instr.Instr.{Instr}
 use Rattle.rv_core.specs.declared.hart.HartAccess.{HartAccess}
