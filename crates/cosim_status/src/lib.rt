@@ -4,12 +4,10 @@
 mod lines;
 mod status;
 mod steps;
-mod trial;
 
 pub use lines::tell_status;
 pub use status::{InputFault, Object, Status};
 pub use steps::{put_before, put_text, read_file, write_file};
-pub use trial::{copy, store};
 
 #[cfg(test)]
 mod tests;

@@ -1,5 +1,4 @@
-use crate::trial::{copy, store};
-use crate::{InputFault, Object, Status, tell_status};
+use crate::{InputFault, Object, Status, put_before, put_text, read_file, tell_status, write_file};
 use cos_base::{Files, MemFiles, MemSink, NoMemory, Numbers, Octets};
 use cos_config::{ConfigFault, Name, TableName};
 use end_device::EndFault;
@@ -194,50 +193,49 @@ fn files_of(
     Ok(files)
 }
 
+/// Whether this is the status of that object, and its first fault.
+fn blames(alloc: Global, status: &Status, object: &str) -> Result<bool, NoMemory> {
+    let mut err = MemSink::make(alloc, 200, Numbers::make(alloc))?;
+    tell_status(&mut err, status);
+    Ok(status.code() == 5 && err.bytes() == object.as_bytes())
+}
+
 #[test]
-fn a_file_is_printed_or_the_object_that_failed_is_blamed(rt: HostRuntime) -> Result<(), Fail> {
+fn a_file_is_read_written_or_the_files_are_blamed(rt: HostRuntime) -> Result<(), Fail> {
     let alloc = rt.alloc();
     let mut files = files_of(alloc, "a", b"text", Numbers::make(alloc))?;
-    let mut out = MemSink::make(alloc, 5, Numbers::make(alloc))?;
-    assert_eq!(rt; copy("a", &mut files, &mut out).code(), 0);
-    assert_eq!(rt; out.bytes(), b"text".as_slice());
-    assert!(rt;
-        is_told(
-            alloc,
-            &copy("b", &mut files, &mut out),
-            5,
-            "cosim: outside: files 1\n"
-        )?
-    );
-    assert!(rt;
-        is_told(
-            alloc,
-            &copy("a", &mut files, &mut out),
-            5,
-            "cosim: outside: out 1\n"
-        )?
-    );
+    let bytes = match read_file(&mut files, "a") {
+        Ok(bytes) => bytes,
+        Err(_) => Octets::make(alloc),
+    };
+    assert_eq!(rt; bytes.as_slice(), b"text".as_slice());
+    assert_eq!(rt; write_file(&mut files, "b", b"more").code(), 0);
+    let bytes = match files.read("b") {
+        Ok(bytes) => bytes,
+        Err(_) => Octets::make(alloc),
+    };
+    assert_eq!(rt; bytes.as_slice(), b"more".as_slice());
+    let absent = match read_file(&mut files, "c") {
+        Ok(_) => Status::Done,
+        Err(status) => status,
+    };
+    assert!(rt; blames(alloc, &absent, "cosim: outside: files 1\n")?);
     Ok(())
 }
 
 #[test]
-fn a_file_is_stored_unless_it_is_refused(rt: HostRuntime) -> Result<(), Fail> {
+fn a_text_is_printed_as_far_as_there_is_room(rt: HostRuntime) -> Result<(), Fail> {
     let alloc = rt.alloc();
-    let mut files = files_of(alloc, "a", b"text", Numbers::make(alloc))?;
-    let mut out = MemSink::make(alloc, 0, Numbers::make(alloc))?;
-    assert_eq!(rt; store("a", "b", &mut files, &mut out).code(), 0);
-    let stored = match files.read("b") {
-        Ok(stored) => stored,
-        Err(_) => Octets::make(alloc),
-    };
-    assert_eq!(rt; stored.as_slice(), b"text".as_slice());
-    let mut empty = files_of(alloc, "a", b"", Numbers::make(alloc))?;
+    let mut out = MemSink::make(alloc, 5, Numbers::make(alloc))?;
+    put_before(&mut out, b"");
+    assert_eq!(rt; put_text(&mut out, b"text").code(), 0);
+    put_before(&mut out, b".");
+    assert_eq!(rt; out.bytes(), b"text.".as_slice());
     assert!(rt;
-        is_told(
+        blames(
             alloc,
-            &store("a", "b", &mut empty, &mut out),
-            3,
-            "cosim: input: ImageEmpty\n"
+            &put_text(&mut out, b"more"),
+            "cosim: outside: out 1\n"
         )?
     );
     Ok(())
