@@ -1,14 +1,14 @@
 ghost use Rattle.std.specs.Prelude.{◌≡◌, ◌⊎◌, ◌∷◌, ◌++◌, List, ℕ, [], take, Some, None, Result, OnOk};
+ghost use Rattle.cos_base.specs.Octets.{Held};
 ghost use Rattle.cosim_model.specs.Packets.{Packet as PacketValue, IsCodec};
 ghost use Rattle.cosim_model.specs.Packets.Decoded.{Valid, Malformed};
 ghost use Rattle.rp_header.specs.Numbers.{AreBytes};
+ghost use Rattle.rp_busaccess.specs.declared.fault.WriteFault.{WriteFault};
 ghost use Rattle.rp_packet.specs.declared.fault.Cause.{Cause};
 ghost use Rattle.rp_packet.specs.Spelling.{Spells, Canonical, Fits, Writable, packet_bytes, packet_fault};
-ghost use Rattle.cos_base.specs.Octets.{Held};
-ghost use Rattle.rp_busaccess.specs.declared.fault.WriteFault.{WriteFault};
-ghost use Rattle.rp_packet.specs.Writing.{Writes};
 ghost use Rattle.rp_packet.specs.Refusals.{first, place_of};
 ghost use Rattle.rp_packet.specs.Streams.{Unfinished, Bad, Spelled, Stream, Faulty, IsStream, IsFaulty};
+ghost use Rattle.rp_packet.specs.Writing.{Writes};
 
 /// A list of bytes spells one packet at most, and no spelling is a proper prefix of another.
 pub fn one_reading()
@@ -35,8 +35,8 @@ pub fn taken_from_the_front()
     ensures refused { (b : List ℕ) (cause : Cause) (n : ℕ) → first b ≡ Some (Malformed cause, n) → Bad b (place_of cause) cause }
 {}
 
-/// What is written for a value whose numbers fit their fields, as those of each packet in memory do, is a spelling of it. So it
-/// is read as that value again.
+/// What is written for a value whose numbers fit their fields, as those of each packet in memory do (`numbers_fit`), is a
+/// spelling of it. So it is read as that value again.
 pub fn one_writing()
     ensures { (v : PacketValue) → Fits v → Writable v → Spells v (packet_bytes v) }
 {}

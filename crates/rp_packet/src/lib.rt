@@ -2,6 +2,7 @@
 #![tactic(auto)]
 
 mod fault;
+mod fitting;
 mod judging;
 mod laws;
 mod packet;
@@ -12,6 +13,7 @@ mod tests;
 mod writing;
 
 pub use fault::{Cause, PacketFault, ReadFault};
+pub use fitting::numbers_fit;
 pub use judging::is_canonical;
 pub use laws::{
     codec_laws, every_stream, one_canonical_spelling, one_reading, one_writing,
