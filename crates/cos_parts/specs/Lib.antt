@@ -1,2 +1,3 @@
 pub mod Nulls
 pub mod AnyDevices
+pub mod AnyMasters

@@ -2,7 +2,9 @@
 #![tactic(auto)]
 
 mod any_device;
+mod any_master;
 mod null;
 
 pub use any_device::AnyDevice;
+pub use any_master::AnyMaster;
 pub use null::Null;
