@@ -1,0 +1,33 @@
+-- How the steps of `show` make up its promise.
+use Rattle.std.proofs.Common.{ℕ, ◌≡◌, List, [], ◌∷◌}
+use Rattle.std.specs.Prelude.{◌==◌, false, length, Result, Ok, Err, OnOk}
+use Rattle.cos_base.specs.declared.sinks.Failed.{Failed}
+use Rattle.cos_base.specs.Counts.{Counts}
+use Rattle.cos_base.specs.Sinks.{Puts}
+use Rattle.cos_base.specs.declared.no_memory.NoMemory.{NoMemory}
+use Rattle.cosim_status.specs.declared.status.Status.TheVariants as status
+use Rattle.cosim_status.specs.declared.status.InputFault.{InputFault}
+use Rattle.cosim_status.specs.declared.status.InputFault.TheVariants as input
+use Rattle.cosim_status.specs.Outcomes.{Seen, PrintsBefore, Refuses}
+use Rattle.cosim_packets.specs.Shown.{Shown, CutOff, Refused}
+use Rattle.cosim_packets.specs.Listing.{EndsAt}
+
+pub before-put : (k : Seen (List ℕ)) (text : List ℕ) (r : Result Unit Failed) → false ≡ (length text == 0) → Counts k.before k.now r → Puts k.old k.new text r → PrintsBefore k text
+before-put k [] r some counts puts = absurd (cc some)
+before-put k (x ∷ xs) r some counts puts = (r, counts, puts)
+
+pub on-ok : (P Q : Type 0) (r : Result Unit NoMemory) → (P → Q) → OnOk r P → OnOk r Q
+on-ok P Q (Ok u) f is = f is
+on-ok P Q (Err e) f is = tt
+
+-- what a refused file comes to
+pub refused-shown : (bytes text : List ℕ) (fault : InputFault) → EndsAt bytes text fault → Shown bytes (Refuses (status.Input fault) text)
+refused-shown bytes text (input.Truncated start held) ends = CutOff ends
+refused-shown bytes text (input.Malformed fault) ends = Refused ends
+refused-shown bytes text input.ImageEmpty ends = absurd ends
+refused-shown bytes text (input.ImageTooLarge size got) ends = absurd ends
+refused-shown bytes text (input.Line line) ends = absurd ends
+refused-shown bytes text (input.Assembly line cause) ends = absurd ends
+refused-shown bytes text (input.UartInput port len) ends = absurd ends
+refused-shown bytes text (input.DiskImage port len) ends = absurd ends
+refused-shown bytes text (input.Words len) ends = absurd ends

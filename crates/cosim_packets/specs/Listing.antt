@@ -1,0 +1,60 @@
+-- What listing the packets of a stream does, one after the other.
+use Rattle.std.specs.Prelude.{◌≡◌, ℕ, ◌≤◌, Bool, List, ◌++◌, length, take, Result, Ok, Err}
+use Rattle.cosim_model.specs.Packets.{Packet}
+use Rattle.rp_packet.specs.Spelling.{Spells}
+use Rattle.rp_packet.specs.Streams.{Unfinished, Bad}
+use Rattle.rp_text.specs.Texts.{line_of}
+use Rattle.cosim_status.specs.declared.status.InputFault.{InputFault}
+use Rattle.cosim_status.specs.declared.status.InputFault.TheVariants as input
+use Rattle.cosim_packets.specs.declared.listing.ListFault.{ListFault}
+use Rattle.cosim_packets.specs.declared.listing.ListFault.TheVariants.{Refused, NoMemory}
+use Rattle.cosim_packets.specs.Shown.{IsLoose, IsWhole, IsCutOff, IsRefused}
+
+-- the line of one packet is appended, which these bytes spell
+pub record AddsLine (v : Packet) (b old new : List ℕ) : Type 0 where
+  pub loose : Bool
+  pub marked : IsLoose v b loose
+  pub text : new ≡ old ++ line_of v loose
+
+-- the line of the packet at the front is appended
+pub record Adds (rest : List ℕ) (size : ℕ) (old new : List ℕ) : Type 0 where
+  pub value : Packet
+  pub within : size ≤ length rest
+  pub spelled : Spells value (take size rest)
+  pub line : AddsLine value (take size rest) old new
+
+-- nothing is appended, since what stands at the front isn't whole or is refused
+abbrev pub Stops : List ℕ → ℕ → List ℕ → List ℕ → InputFault → Type 0
+Stops rest at old new (input.Truncated start held) = (new ≡ old) × (start ≡ at) × (held ≡ length rest) × Unfinished rest
+Stops rest at old new (input.Malformed fault) = (new ≡ old) × (fault.start ≡ at) × Bad rest fault.place fault.cause
+Stops rest at old new input.ImageEmpty = ⊥
+Stops rest at old new (input.ImageTooLarge size got) = ⊥
+Stops rest at old new (input.Line line) = ⊥
+Stops rest at old new (input.Assembly line cause) = ⊥
+Stops rest at old new (input.UartInput port len) = ⊥
+Stops rest at old new (input.DiskImage port len) = ⊥
+Stops rest at old new (input.Words len) = ⊥
+
+-- what listing the packet at the front answers, which begins at this place
+abbrev pub ListsOne : List ℕ → ℕ → List ℕ → List ℕ → Result ℕ ListFault → Type 0
+ListsOne rest at old new (Ok size) = Adds rest size old new
+ListsOne rest at old new (Err (Refused fault)) = Stops rest at old new fault
+ListsOne rest at old new (Err NoMemory) = Unit {0}
+
+-- the text before a refusal of a whole file
+abbrev pub EndsAt : List ℕ → List ℕ → InputFault → Type 0
+EndsAt b text (input.Truncated start held) = IsCutOff b start held text
+EndsAt b text (input.Malformed fault) = IsRefused b fault text
+EndsAt b text input.ImageEmpty = ⊥
+EndsAt b text (input.ImageTooLarge size got) = ⊥
+EndsAt b text (input.Line line) = ⊥
+EndsAt b text (input.Assembly line cause) = ⊥
+EndsAt b text (input.UartInput port len) = ⊥
+EndsAt b text (input.DiskImage port len) = ⊥
+EndsAt b text (input.Words len) = ⊥
+
+-- what listing all answers
+abbrev pub Lists : List ℕ → List ℕ → Result Unit ListFault → Type 0
+Lists b text (Ok u) = IsWhole b text
+Lists b text (Err (Refused fault)) = EndsAt b text fault
+Lists b text (Err NoMemory) = Unit {0}
