@@ -1,9 +1,9 @@
 #!/usr/bin/env python3
 """Times `cosim show` and `cosim pack` over a stream of mixed packets, beside plain Rust that does the same work, in one run.
 
-    bench/packets/run.py COSIM [MEBIBYTES]
+    bench/packets/run.py COSIM [MEBIBYTES [show|pack]]
 
-Prints seconds (the best of three), the ratio to the baseline, and the peak memory of each.
+It times both commands, or the one that is named. Prints seconds (the best of three), the ratio to the baseline, and the peak memory of each.
 """
 import os
 import subprocess
@@ -34,27 +34,30 @@ def same(first, second):
     return subprocess.run(["cmp", "-s", first, second]).returncode == 0
 
 
+def plain(text, out):
+    """A text without the marks of loose spellings, which `pack` doesn't read."""
+    with open(text, "rb") as lines, open(out, "wb") as sink:
+        sink.writelines(line.replace(b" loose\n", b"\n") for line in lines)
+
+
 def main():
     cosim, mebibytes = os.path.abspath(sys.argv[1]), int(sys.argv[2]) if len(sys.argv) > 2 else 64
+    commands = sys.argv[3:] or ["show", "pack"]
     with tempfile.TemporaryDirectory() as folder:
         at = lambda name: os.path.join(folder, name)
         subprocess.run(["rustc", "--edition", "2021", "-O", "-o", at("baseline"), os.path.join(HERE, "baseline.rs")], check=True)
-        subprocess.run([sys.executable, os.path.join(HERE, "make_stream.py"), at("stream"), str(mebibytes)], check=True)
-        rows = []
-        base, base_peak = timed([at("baseline"), "show", at("stream")], at("expected"))
-        ours, ours_peak = timed([cosim, "show", at("stream")], at("printed"))
-        if not same(at("expected"), at("printed")):
-            sys.exit("show: the two texts differ")
-        rows.append(("show", base, base_peak, ours, ours_peak))
-        with open(at("expected"), "rb") as text, open(at("text"), "wb") as plain:
-            plain.writelines(line.replace(b" loose\n", b"\n") for line in text)
-        base, base_peak = timed([at("baseline"), "pack", at("text")], at("expected"))
-        ours, ours_peak = timed([cosim, "pack", at("text")], at("printed"))
-        if not same(at("expected"), at("printed")):
-            sys.exit("pack: the two streams differ")
-        rows.append(("pack", base, base_peak, ours, ours_peak))
-    for name, base, base_peak, ours, ours_peak in rows:
-        print(f"{name}: cosim {ours:.2f} s, {ours_peak} MiB; plain Rust {base:.2f} s, {base_peak} MiB; ratio {ours / base:.2f}")
+        subprocess.run([sys.executable, os.path.join(HERE, "make_stream.py"), at("show"), str(mebibytes)], check=True)
+        if "pack" in commands:
+            with open(at("text"), "wb") as text:
+                subprocess.run([at("baseline"), "show", at("show")], stdout=text, check=True)
+            plain(at("text"), at("pack"))
+        for name in commands:
+            base, base_peak = timed([at("baseline"), name, at(name)], at("expected"))
+            ours, ours_peak = timed([cosim, name, at(name)], at("printed"))
+            if not same(at("expected"), at("printed")):
+                sys.exit(f"{name}: the two outputs differ")
+            sizes = [os.path.getsize(at(file)) >> 20 for file in (name, "printed")]
+            print(f"{name}: {sizes[0]} MiB to {sizes[1]} MiB; ours {ours:.2f} s, {ours_peak} MiB; plain Rust {base:.2f} s, {base_peak} MiB; ratio {ours / base:.2f}")
 
 
 main()

@@ -2,7 +2,7 @@
 use Rattle.std.proofs.Common.{◌≡◌, inl, ℕ, ◌+◌, ◌<◌, ◌≤◌, Bool, true, false, List, [], ◌∷◌, ◌++◌, length, take, drop, refl, sym, ap, ◌∙◌, arith, subst}
 use Rattle.std.proofs.Math.Seq.{take-append_seam, drop-append_seam, take-add, take-length}
 use Rattle.std.proofs.lemmas.List.{append_assoc, append-nil, length-append, length-take, length-drop, take-append-drop}
-use Rattle.std.specs.Prelude.{Some, Err, IsTrue, ◌↔◌, not}
+use Rattle.std.specs.Prelude.{Err, IsTrue, ◌↔◌, not}
 use Rattle.cosim_model.specs.Packets.{Packet, Decoded}
 use Rattle.cosim_model.specs.Packets.Decoded.{Valid}
 use Rattle.rp_packet.specs.declared.fault.Cause.{Cause}
@@ -13,7 +13,7 @@ use Rattle.rp_packet.specs.declared.fault.ReadFault.{ReadFault}
 use Rattle.rp_packet.specs.declared.fault.ReadFault.TheVariants as read
 use Rattle.rp_packet.specs.Reading.{IsOnePacket, Judges}
 use Rattle.rp_packet.specs.ReadingLaws.{Begins, Begins-Spells, length-Spells}
-use Rattle.rp_packet.specs.Streams.{Unfinished, Bad, Spelled, Spelled_none, Spelled_one, Stream, Faulty}
+use Rattle.rp_packet.specs.Streams.{Spelled, Spelled_none, Spelled_one, Stream}
 use Rattle.rp_packet.specs.StreamLaws.{same-some, first-spelled}
 use Rattle.rp_packet.specs.Walks.{Stream-front, Stream-none, Faulty-none, one-stream, one-faulty, never-both}
 use Rattle.rp_text.specs.Texts.{line_of}

@@ -1,5 +1,5 @@
 -- What `show` comes to by the bytes of a file: the lines of all packets, or a refusal and the lines of the packets before it.
-use Rattle.std.specs.Prelude.{◌≡◌, ℕ, ◌≤◌, Bool, true, false, List, [], ◌∷◌, ◌++◌, length, Result, Ok, Err}
+use Rattle.std.specs.Prelude.{◌≡◌, ℕ, ◌≤◌, Bool, true, false, List, [], ◌∷◌, ◌++◌, length}
 use Rattle.cosim_model.specs.Packets.{Packet}
 use Rattle.rp_packet.specs.declared.fault.PacketFault.{PacketFault}
 use Rattle.rp_packet.specs.Spelling.{Spells, Canonical}

@@ -1,9 +1,8 @@
-use Rattle.std.proofs.Common.{List, ℕ, ◌≡◌, [], refl, ◌∙◌, subst}
+use Rattle.std.proofs.Common.{[], refl}
 use Rattle.cosim_status.specs.declared.status.Status.TheVariants as status
-use Rattle.cosim_status.specs.Outcomes.{Refuses, PrintsBefore}
+use Rattle.cosim_status.specs.Outcomes.{Refuses}
 use Rattle.cosim_status.proofs.Commands.{comes-read, comes-lacking, one-of-file, meets-each, unread-meets, printed-ends, printed-meets}
 use Rattle.cosim_packets.specs.Shown.{Shown, Whole}
-use Rattle.cosim_packets.specs.Listing.{Lists}
 use Rattle.cosim_packets.specs.ListLaws.{one-shown}
 use Rattle.cosim_packets.proofs.ShowLaws.{refused-shown}
 use Rattle.cosim_packets.proofs.showing.show.Goals as goal
