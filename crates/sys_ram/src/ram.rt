@@ -76,6 +76,19 @@ impl Ram {
         Some((addr - BASE) as usize)
     }
 
+    /// Where a few bytes stand, where all of them are in RAM: by one test, since no address before RAM is that near.
+    #[inline(always)]
+    fn near(&self, addr: u32, count: usize) -> Option<usize>
+        requires { count ≤ 4 }
+        ensures { result ≡ place_of (length self.now) addr count }
+    {
+        let at = addr.wrapping_sub(0x8000_0000) as usize;
+        if at + count > self.size() as usize {
+            return None;
+        }
+        Some(at)
+    }
+
     /// Puts an image at the front. The bytes after it stay what they were.
     pub fn load(&mut self, image: &[u8]) -> Result<(), ImageFault>
         ensures { Loads self.old self.new image.now result }
@@ -157,7 +170,7 @@ impl Ram {
     pub fn byte(&self, addr: u32) -> Option<u8>
         ensures { result ≡ number_of self.now addr 1 }
     {
-        match self.place(u64::from(addr), 1) {
+        match self.near(addr, 1) {
             Some(at) => Some(u8::from_le_bytes(part(&self.pages, at))),
             None => None,
         }
@@ -168,7 +181,7 @@ impl Ram {
     pub fn half(&self, addr: u32) -> Option<u16>
         ensures { result ≡ number_of self.now addr 2 }
     {
-        match self.place(u64::from(addr), 2) {
+        match self.near(addr, 2) {
             Some(at) => Some(u16::from_le_bytes(part(&self.pages, at))),
             None => None,
         }
@@ -179,7 +192,7 @@ impl Ram {
     pub fn word(&self, addr: u32) -> Option<u32>
         ensures { result ≡ number_of self.now addr 4 }
     {
-        match self.place(u64::from(addr), 4) {
+        match self.near(addr, 4) {
             Some(at) => Some(u32::from_le_bytes(part(&self.pages, at))),
             None => None,
         }
@@ -191,7 +204,7 @@ impl Ram {
         ensures ok { IfOk result (λ there. store_of self.old addr 1 value ≡ (self.new, there)) }
         ensures err { OnErr result (self.new ≡ self.old) }
     {
-        match self.place(u64::from(addr), 1) {
+        match self.near(addr, 1) {
             Some(at) => match put_part(self.alloc, &mut self.pages, at, &value.to_le_bytes()) {
                 Ok(()) => Ok(true),
                 Err(NoMemory) => Err(NoMemory),
@@ -206,7 +219,7 @@ impl Ram {
         ensures ok { IfOk result (λ there. store_of self.old addr 2 value ≡ (self.new, there)) }
         ensures err { OnErr result (self.new ≡ self.old) }
     {
-        match self.place(u64::from(addr), 2) {
+        match self.near(addr, 2) {
             Some(at) => match put_part(self.alloc, &mut self.pages, at, &value.to_le_bytes()) {
                 Ok(()) => Ok(true),
                 Err(NoMemory) => Err(NoMemory),
@@ -221,7 +234,7 @@ impl Ram {
         ensures ok { IfOk result (λ there. store_of self.old addr 4 value ≡ (self.new, there)) }
         ensures err { OnErr result (self.new ≡ self.old) }
     {
-        match self.place(u64::from(addr), 4) {
+        match self.near(addr, 4) {
             Some(at) => match put_part(self.alloc, &mut self.pages, at, &value.to_le_bytes()) {
                 Ok(()) => Ok(true),
                 Err(NoMemory) => Err(NoMemory),
