@@ -13,5 +13,6 @@ pub mod PacketLaws
 pub mod Writing
 pub mod WrittenLaws
 pub mod CodecLaws
+pub mod TightLaws
 pub mod CanonicalLaws
 pub mod JudgingLaws
