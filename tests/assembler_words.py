@@ -17,6 +17,7 @@ import tempfile
 TOP = os.path.dirname(os.path.dirname(os.path.abspath(__file__)))
 CRATE = os.path.join(TOP, "crates", "cosim")
 PROGRAM = os.path.join(CRATE, "out", "cosim")
+EXAMPLE = os.path.join(TOP, "examples", "one_byte.s")
 SECONDS = 60
 PREFIXES = ["riscv64-unknown-elf-", "riscv32-unknown-elf-", "riscv64-linux-gnu-", "riscv64-elf-"]
 TOOLS = ["as", "ld", "objcopy"]
@@ -162,6 +163,8 @@ def main():
         if len(listed) != len(lines):
             failures.append(f"each form: {len(listed)} bytes are listed, and not {len(lines)}")
         compare("labels", prefix, folder, LABELS)
+        with open(EXAMPLE, encoding="ascii") as file:
+            compare("the example", prefix, folder, file.read())
     for failure in failures[:20]:
         print(failure)
     print(f"assembler_words: {len(failures)} mismatches")
