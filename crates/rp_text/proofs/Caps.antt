@@ -24,7 +24,7 @@ words-cons n ns small rest = record { each = each-cons n ns small rest.each }
     each-cons n ns small rest zero = small
     each-cons n ns small rest (suc i) = rest i
 
-words-tail : (n : ℕ) (ns : List ℕ) → AreWords (n ∷ ns) → AreWords ns
+pub words-tail : (n : ℕ) (ns : List ℕ) → AreWords (n ∷ ns) → AreWords ns
 words-tail n ns words = record { each = λ i. words.each (suc i) }
 
 words-append : (ms ns : List ℕ) → AreWords ms → AreWords ns → AreWords (ms ++ ns)

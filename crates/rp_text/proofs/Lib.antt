@@ -7,3 +7,4 @@ pub mod Decoded
 pub mod Caps
 pub mod Bodies
 pub mod Named
+pub mod Unique

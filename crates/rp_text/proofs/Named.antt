@@ -1,5 +1,6 @@
 -- Lines by the names of their commands.
 use Rattle.std.proofs.Common.{◌≡◌, ℕ, ◌<◌, ◌^◌, Bool, true, List, [], ◌∷◌, ◌++◌, decimal, Option, Some, None, refl, sym, ap, ◌∙◌, subst}
+use Rattle.std.specs.Prelude.{slice_index, ◌==◌, if◌then◌else◌}
 use Rattle.cosim_model.specs.Packets.{Packet, Body, command_of}
 use Rattle.cosim_model.specs.declared.session.Command.{Command}
 use Rattle.cosim_model.specs.declared.session.Command.TheVariants as command
@@ -12,7 +13,7 @@ use Rattle.rp_text.specs.Reading.{TakesTag, TakesBody}
 use Rattle.rp_text.proofs.Cuts.{whole, cut-of}
 use Rattle.rp_text.proofs.Takes.{some-same}
 
-no_blank-name : (c : Command) → no_blank (name_of c) ≡ true
+pub no_blank-name : (c : Command) → no_blank (name_of c) ≡ true
 no_blank-name command.Nop = refl
 no_blank-name command.Hello = refl
 no_blank-name command.Cfg = refl
@@ -62,3 +63,29 @@ line-exact v w line front rest c tag start mid end start_is packable is front_is
 
 pub same-command : (c d : Command) → let P : Option Command → Option Command → Type 0 = λ a b. a ≡ b in P (Some c) (Some d) → c ≡ d
 same-command c d e = cc (e)
+
+-- names are apart by their first letters
+abbrev letter : List ℕ → ℕ
+letter word = slice_index word 0
+
+abbrev command_by : ℕ → Command
+command_by c =
+    if c == 110 then command.Nop
+    else (if c == 104 then command.Hello
+    else (if c == 99 then command.Cfg
+    else (if c == 114 then command.Read
+    else (if c == 119 then command.Write
+    else (if c == 105 then command.Interrupt
+    else command.Sync)))))
+
+command_by-letter : (c : Command) → command_by (letter (name_of c)) ≡ c
+command_by-letter command.Nop = refl
+command_by-letter command.Hello = refl
+command_by-letter command.Cfg = refl
+command_by-letter command.Read = refl
+command_by-letter command.Write = refl
+command_by-letter command.Interrupt = refl
+command_by-letter command.Sync = refl
+
+pub names-apart : (c d : Command) → name_of c ≡ name_of d → c ≡ d
+names-apart c d same = sym (command_by-letter c) ∙ ap (λ (x : List ℕ). command_by (letter x)) same ∙ command_by-letter d

@@ -18,6 +18,7 @@
 mod decoding;
 mod fault;
 mod hex_text;
+mod laws;
 mod numerals;
 mod printing;
 mod reading;
@@ -27,5 +28,6 @@ mod words_in;
 mod words_out;
 
 pub use fault::LineFault;
+pub use laws::one_line;
 pub use printing::packet_line;
 pub use reading::read_line;
