@@ -2,8 +2,10 @@
 #![tactic(auto)]
 
 mod listing;
+mod packing;
 mod showing;
 #[cfg(test)]
 mod tests;
 
+pub use packing::pack;
 pub use showing::show;

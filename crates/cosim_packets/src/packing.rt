@@ -1,0 +1,111 @@
+// The packets of a text, one packet a line.
+ghost use Rattle.std.specs.Prelude.{◌≡◌, ◌+◌, ◌≤◌, ◌∷◌, [], length, option_copied};
+ghost use Rattle.cosim_status.specs.Outcomes.{seen, OfFile, Blames, Ends, MeetsOne, MeetsEach};
+ghost use Rattle.rv_asm.specs.Texts.{lines, before, after};
+ghost use Rattle.cosim_packets.specs.Packed.{Packed};
+ghost use Rattle.cosim_packets.specs.Packing.{PacksLine, PacksLines, PacksText};
+
+use cos_base::{Files, Octets, Sink};
+use cosim_status::{InputFault, Status, put_text, read_file};
+use rp_text::{LineFault, read_line};
+use std::alloc::Global;
+
+/// Why a text wasn't packed.
+#[derive(Clone, Copy, Debug, PartialEq, Eq)]
+pub enum PackFault {
+    /// The first line, counted from 1, that is that of no packet; or 1, where the text isn't UTF-8.
+    Line { line: u64 },
+    /// Want of memory.
+    NoMemory,
+}
+
+/// Prints the packets of a text, of which each line is that of one, in their canonical spelling. The last line may lack its line
+/// feed. The first line that is refused is told, and then nothing is printed; a text that isn't UTF-8 is refused at line 1.
+///
+/// The whole text is judged before anything is printed, so the text and its packets are both in memory.
+pub fn pack<F: Files, K: Sink>(alloc: Global, name: &str, files: &mut F, out: &mut K) -> Status
+    ensures blames { Blames (F.count files.old) (F.count files.new) (K.count out.old) (K.count out.new) result }
+    ensures ends { Ends (OfFile name.now Packed (F.told files.old)) [] (seen F.count F.told files.old files.new) (seen K.count K.told out.old out.new) result }
+    ensures sound { F.sound files.old → K.sound out.old → MeetsOne (OfFile name.now Packed (F.told files.old)) (K.room out.old) result }
+    ensures complete { F.sound files.old → K.sound out.old → MeetsEach (OfFile name.now Packed (F.told files.old)) (K.room out.old) result }
+{
+    let text = match read_file(files, name) {
+        Ok(text) => text,
+        Err(status) => return status,
+    };
+    let mut bytes = Octets::make(alloc);
+    match pack_text(alloc, text.as_slice(), &mut bytes) {
+        Ok(()) => put_text(out, bytes.as_slice()),
+        Err(PackFault::Line { line }) => Status::Input(InputFault::Line { line }),
+        Err(PackFault::NoMemory) => Status::NoMemory,
+    }
+}
+
+/// Puts the packets of a text.
+fn pack_text(alloc: Global, text: &[u8], out: &mut Octets) -> Result<(), PackFault>
+    requires { out.old.bytes ≡ [] }
+    ensures { PacksText text.now out.new.bytes result }
+{
+    match str::from_utf8(text) {
+        Ok(_) => pack_lines(alloc, text, out),
+        Err(_) => Err(PackFault::Line { line: 1 }),
+    }
+}
+
+/// Puts the packets of the lines of a text.
+fn pack_lines(alloc: Global, text: &[u8], out: &mut Octets) -> Result<(), PackFault>
+    requires { out.old.bytes ≡ [] }
+    ensures { PacksLines (lines text.now) out.new.bytes result }
+{
+    let mut rest = text;
+    let mut number = 0;
+    while !rest.is_empty() {
+        let (line, more) = first_line(rest);
+        number += 1;
+        match pack_line(alloc, line, out) {
+            Ok(()) => rest = more,
+            Err(LineFault::Line) => return Err(PackFault::Line { line: number }),
+            Err(LineFault::NoMemory) => return Err(PackFault::NoMemory),
+        }
+    }
+    Ok(())
+}
+
+/// Appends the packet of a line. What was read from a line can be written, if there is memory.
+fn pack_line(alloc: Global, line: &[u8], out: &mut Octets) -> Result<(), LineFault>
+    ensures { PacksLine line.now out.old.bytes out.new.bytes result }
+{
+    match read_line(alloc, line) {
+        Ok(packet) => match packet.write_into(out) {
+            Ok(()) => Ok(()),
+            Err(_) => Err(LineFault::NoMemory),
+        },
+        Err(fault) => Err(fault),
+    }
+}
+
+/// The first line of a text that isn't empty, and the rest of the text.
+fn first_line(text: &[u8]) -> (&[u8], &[u8])
+    requires { 1 ≤ length text.now }
+    ensures lines { lines text.now ≡ result.0.now ∷ lines result.1.now }
+    ensures shorter { length result.1.now + 1 ≤ length text.now }
+{
+    let (line, rest) = cut(text);
+    match rest {
+        Some(rest) => (line, rest),
+        None => (line, &[]),
+    }
+}
+
+/// What stands before the first line feed, and what stands behind it.
+fn cut(text: &[u8]) -> (&[u8], Option<&[u8]>)
+    ensures front { result.0.now ≡ before 10 text.now }
+    ensures back { option_copied result.1 ≡ after 10 text.now }
+{
+    for i in 0..text.len() {
+        if text[i] == b'\n' {
+            return (&text[..i], Some(&text[i + 1..]));
+        }
+    }
+    (text, None)
+}
