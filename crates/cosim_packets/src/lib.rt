@@ -2,6 +2,8 @@
 #![tactic(auto)]
 
 mod listing;
+#[cfg(test)]
+mod pack_tests;
 mod packing;
 mod showing;
 #[cfg(test)]
