@@ -1,3 +1,5 @@
+ghost use Rattle.std.specs.Prelude.{◌<◌};
+
 use crate::{LineFault, packet_line, read_line};
 use cos_base::Octets;
 use rp_packet::{Packet, ReadFault, packet_len};
@@ -81,6 +83,13 @@ const LOOSE_HELLO: [u8; 48] = [
     0, 0, 0, 0, 0, 0, 0, 0, 1, 0, 0, 0, 2, 0, 0, 0, 3,
 ];
 
+/// The bytes of a packet, and its line.
+fn case(number: usize) -> (&'static [u8], &'static [u8])
+    requires { number < 9 }
+{
+    (PACKETS.bytes[number], PACKETS.lines[number])
+}
+
 /// Reads bytes that are one packet by their header.
 fn read_one(alloc: Global, bytes: &[u8]) -> Result<Packet, ReadFault> {
     if bytes.len() < 20 {
@@ -111,23 +120,16 @@ fn has_line(alloc: Global, bytes: &[u8], loose: bool, line: &[u8]) -> bool {
     }
 }
 
-macro_rules! assert_has_line {
-    ($rt:expr, $number:literal) => {
-        assert!($rt; has_line($rt.alloc(), PACKETS.bytes[$number], false, PACKETS.lines[$number]), "packet {}", $number);
-    };
-}
-
 #[test]
 fn packets_have_their_lines(rt: HostRuntime) -> Result<(), Fail> {
-    assert_has_line!(rt, 0);
-    assert_has_line!(rt, 1);
-    assert_has_line!(rt, 2);
-    assert_has_line!(rt, 3);
-    assert_has_line!(rt, 4);
-    assert_has_line!(rt, 5);
-    assert_has_line!(rt, 6);
-    assert_has_line!(rt, 7);
-    assert_has_line!(rt, 8);
+    for number in 0..9 {
+        let (bytes, line) = case(number);
+        assert!(rt;
+            has_line(rt.alloc(), bytes, false, line),
+            "packet {}",
+            number
+        );
+    }
     Ok(())
 }
 
@@ -140,23 +142,12 @@ fn is_read(alloc: Global, line: &[u8], bytes: &[u8]) -> bool {
     }
 }
 
-macro_rules! assert_is_read {
-    ($rt:expr, $number:literal) => {
-        assert!($rt; is_read($rt.alloc(), PACKETS.lines[$number], PACKETS.bytes[$number]), "line {}", $number);
-    };
-}
-
 #[test]
 fn lines_are_read_as_their_packets(rt: HostRuntime) -> Result<(), Fail> {
-    assert_is_read!(rt, 0);
-    assert_is_read!(rt, 1);
-    assert_is_read!(rt, 2);
-    assert_is_read!(rt, 3);
-    assert_is_read!(rt, 4);
-    assert_is_read!(rt, 5);
-    assert_is_read!(rt, 6);
-    assert_is_read!(rt, 7);
-    assert_is_read!(rt, 8);
+    for number in 0..9 {
+        let (bytes, line) = case(number);
+        assert!(rt; is_read(rt.alloc(), line, bytes), "line {}", number);
+    }
     Ok(())
 }
 
