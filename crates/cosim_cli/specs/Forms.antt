@@ -35,5 +35,8 @@ pub record FaultyIn (forms : List (List Word)) (words : List (List ℕ)) (index 
 abbrev pub forms : List (List Word)
 forms =
     (Exact (codes "device") ∷ Any ∷ Exact (codes "null") ∷ [])
+    ∷ (Exact (codes "show") ∷ Any ∷ [])
+    ∷ (Exact (codes "asm") ∷ Any ∷ Any ∷ [])
+    ∷ (Exact (codes "dis") ∷ Any ∷ [])
     ∷ (Exact (codes "help") ∷ [])
     ∷ []

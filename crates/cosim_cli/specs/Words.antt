@@ -8,15 +8,24 @@ use Rattle.cosim_cli.specs.declared.words.Command.TheVariants as read
 -- A command with its words. A word that is named here may be any, the empty one too.
 pub data Command : Type 0 where
   Device : List ℕ → Command
+  Show : List ℕ → Command
+  Asm : List ℕ → List ℕ → Command
+  Dis : List ℕ → Command
   Help : Command
 
 abbrev pub words_of : Command → List (List ℕ)
 words_of (Device socket) = codes "device" ∷ socket ∷ codes "null" ∷ []
+words_of (Show file) = codes "show" ∷ file ∷ []
+words_of (Asm file out) = codes "asm" ∷ file ∷ out ∷ []
+words_of (Dis file) = codes "dis" ∷ file ∷ []
 words_of Help = codes "help" ∷ []
 
 -- the command that was read
 abbrev pub asked : Read → Command
 asked (read.Device socket) = Device socket.now
+asked (read.Show file) = Show file.now
+asked (read.Asm file out) = Asm file.now out.now
+asked (read.Dis file) = Dis file.now
 asked read.Help = Help
 
 abbrev pub IsCommand : List (List ℕ) → Type 0

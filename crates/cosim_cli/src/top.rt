@@ -9,6 +9,8 @@ use crate::device::device;
 use crate::help::help;
 use crate::words::{Command, command_of, stop_of};
 use cos_base::{Files, Network, Sink};
+use cosim_assembly::{asm, dis};
+use cosim_packets::show;
 use cosim_status::{Status, tell_status};
 use std::alloc::Global;
 
@@ -34,6 +36,9 @@ fn perform<F: Files, K: Sink, N: Network>(
 {
     match command {
         Command::Device { socket } => device(alloc, socket, net),
+        Command::Show { file } => show(alloc, file, files, out),
+        Command::Asm { file, out: target } => asm(alloc, file, target, files),
+        Command::Dis { file } => dis(alloc, file, files, out),
         Command::Help => help(out),
     }
 }

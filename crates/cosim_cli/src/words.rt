@@ -8,6 +8,12 @@ ghost use Rattle.cosim_cli.specs.Forms.{Exact, Any, FaultyIn};
 pub enum Command<'a> {
     /// Serve a null device at a socket.
     Device { socket: &'a str },
+    /// Print the packets of a stream.
+    Show { file: &'a str },
+    /// Write the image of an assembly.
+    Asm { file: &'a str, out: &'a str },
+    /// Print the words of an image.
+    Dis { file: &'a str },
     /// Print the help text.
     Help,
 }
@@ -42,6 +48,38 @@ fn no_word(words: &[String]) -> Result<(), u64>
     match cut(words) {
         None => Ok(()),
         Some(_) => Err(0),
+    }
+}
+
+/// One more word.
+fn one_word(words: &[String]) -> Result<&str, u64>
+    ensures ok { IfOk result (λ w. map string_bytes words.now ≡ w.now ∷ []) }
+    ensures err { IfErr result (λ i. FaultyIn ((Any ∷ []) ∷ []) (map string_bytes words.now) i) }
+    ensures few { IfErr result (λ i. i ≤ 1) }
+{
+    let (word, after) = match cut(words) {
+        Some(parts) => parts,
+        None => return Err(0),
+    };
+    match no_word(after) {
+        Ok(()) => Ok(word),
+        Err(index) => Err(index + 1),
+    }
+}
+
+/// Two more words.
+fn two_words(words: &[String]) -> Result<(&str, &str), u64>
+    ensures ok { IfOk result (λ p. map string_bytes words.now ≡ p.0.now ∷ p.1.now ∷ []) }
+    ensures err { IfErr result (λ i. FaultyIn ((Any ∷ Any ∷ []) ∷ []) (map string_bytes words.now) i) }
+    ensures few { IfErr result (λ i. i ≤ 2) }
+{
+    let (word, after) = match cut(words) {
+        Some(parts) => parts,
+        None => return Err(0),
+    };
+    match one_word(after) {
+        Ok(other) => Ok((word, other)),
+        Err(index) => Err(index + 1),
     }
 }
 
@@ -92,6 +130,24 @@ pub fn command_of(words: &[String]) -> Result<Command<'_>, u64>
     if is_word(verb, "device") {
         return match null_socket(after) {
             Ok(socket) => Ok(Command::Device { socket }),
+            Err(index) => Err(index + 1),
+        };
+    }
+    if is_word(verb, "show") {
+        return match one_word(after) {
+            Ok(file) => Ok(Command::Show { file }),
+            Err(index) => Err(index + 1),
+        };
+    }
+    if is_word(verb, "asm") {
+        return match two_words(after) {
+            Ok((file, out)) => Ok(Command::Asm { file, out }),
+            Err(index) => Err(index + 1),
+        };
+    }
+    if is_word(verb, "dis") {
+        return match one_word(after) {
+            Ok(file) => Ok(Command::Dis { file }),
             Err(index) => Err(index + 1),
         };
     }
