@@ -4,4 +4,6 @@
 #[cfg(test)]
 mod calls;
 #[cfg(test)]
-mod tests;
+mod firmware;
+#[cfg(test)]
+mod scripts;

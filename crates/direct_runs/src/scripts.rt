@@ -14,8 +14,8 @@ use dev_timer::Timer;
 use std::alloc::Global;
 use std::process::Abort;
 use sys_ram::Ram;
-use world::direct;
 use world::outcome::Direct;
+use world::{direct, direct_by_port};
 
 const PLAN: Plan = Plan {
     quantum: 10,
@@ -111,6 +111,22 @@ fn wants_are_served_in_the_order_of_their_due_times(rt: HostRuntime) {
     assert_eq!(rt; run.master.stopped(), Some(0));
     assert_eq!(rt; run.ticks, 10);
     assert_eq!(rt; run.master.closing().lines, 3);
+}
+
+#[test]
+fn by_port_all_wants_of_the_least_port_come_first(rt: HostRuntime) {
+    let devices = two_timers(&rt, rt.alloc());
+    assert!(rt; devices.len() == 2);
+    assert!(rt; devices.iter().all(|device| device.seen() == 0));
+    let master = script(&rt, rt.alloc(), TWO_TIMERS, 2, &[]);
+    let run = direct_by_port(rt.alloc(), master, devices, PLAN).expect(&rt, "there is memory");
+    match run.calls.as_slice() {
+        [_, _, _, _, served @ ..] => {
+            let expected = [line(10, 0, 7, 0, true), line(10, 1, 5, 1, true)];
+            assert_eq!(rt; served, expected.as_slice());
+        }
+        _ => panic!(rt; "four writes come first"),
+    }
 }
 
 #[test]
