@@ -19,6 +19,20 @@ const SYNC_AND_READ: [u8; 86] = [
     0, 0, 0, 0, 0, 0, 0, 0, 0, 8, 0, 0, 0, 4, 0, 0, 0, 0, 0, 0, 0, 4, 0, 0,
 ];
 
+/// A device's hello with all capabilities, and the same with four unused bytes before them.
+const HELLOS: [u8; 92] = [
+    0, 0, 0, 1, 0, 0, 0, 24, 0, 0, 0, 0, 0, 0, 0, 0, 0, 0, 0, 0, 0, 4, 0, 3, 0, 0, 0, 32, 0, 3, 0,
+    0, 0, 0, 0, 1, 0, 0, 0, 2, 0, 0, 0, 3, 0, 0, 0, 1, 0, 0, 0, 28, 0, 0, 0, 0, 0, 0, 0, 0, 0, 0,
+    0, 0, 0, 4, 0, 3, 0, 0, 0, 36, 0, 3, 0, 0, 0, 0, 0, 0, 0, 0, 0, 1, 0, 0, 0, 2, 0, 0, 0, 3,
+];
+
+/// Their value twice, each in its canonical spelling.
+const HELLOS_AGAIN: [u8; 88] = [
+    0, 0, 0, 1, 0, 0, 0, 24, 0, 0, 0, 0, 0, 0, 0, 0, 0, 0, 0, 0, 0, 4, 0, 3, 0, 0, 0, 32, 0, 3, 0,
+    0, 0, 0, 0, 1, 0, 0, 0, 2, 0, 0, 0, 3, 0, 0, 0, 1, 0, 0, 0, 24, 0, 0, 0, 0, 0, 0, 0, 0, 0, 0,
+    0, 0, 0, 4, 0, 3, 0, 0, 0, 32, 0, 3, 0, 0, 0, 0, 0, 1, 0, 0, 0, 2, 0, 0, 0, 3,
+];
+
 /// The header of an address translation, which no packet has.
 const TRANSLATION: [u8; 20] = [
     0, 0, 0, 7, 255, 255, 255, 255, 0, 0, 0, 0, 0, 0, 0, 0, 0, 0, 0, 0,
@@ -26,6 +40,9 @@ const TRANSLATION: [u8; 20] = [
 
 /// The header of a nop of 65,536 further bytes.
 const LONG_NOP: [u8; 20] = [0, 0, 0, 0, 0, 1, 0, 0, 0, 0, 0, 0, 0, 0, 0, 0, 0, 0, 0, 0];
+
+/// The header of a nop of one byte more, which is too long.
+const TOO_LONG: [u8; 20] = [0, 0, 0, 0, 0, 1, 0, 1, 0, 0, 0, 0, 0, 0, 0, 0, 0, 0, 0, 0];
 
 /// Takes every packet that is whole, and writes each into `out`; it says how many.
 fn drain(framer: &mut Framer, out: &mut Octets) -> Result<u32, FrameFault> {
@@ -74,10 +91,10 @@ fn moments(alloc: Global, stream: &[u8], out: &mut Octets) -> Result<Numbers, Fr
     Ok(numbers)
 }
 
-/// Whether a stream gives its packets however it is cut in two.
-fn is_same_at_every_cut(alloc: Global, stream: &[u8]) -> Result<bool, FrameFault> {
+/// Whether a stream gives packets that are written as these bytes, however it is cut in two.
+fn is_same_at_every_cut(alloc: Global, stream: &[u8], written: &[u8]) -> Result<bool, FrameFault> {
     for cut in 0..200 {
-        if cut_at(alloc, stream, cut)?.as_slice() != stream {
+        if cut_at(alloc, stream, cut)?.as_slice() != written {
             return Ok(false);
         }
     }
@@ -86,8 +103,10 @@ fn is_same_at_every_cut(alloc: Global, stream: &[u8]) -> Result<bool, FrameFault
 
 #[test]
 fn a_cut_stream_gives_the_same_packets(rt: HostRuntime) -> Result<(), Fail> {
-    assert_eq!(rt; is_same_at_every_cut(rt.alloc(), &SYNC_AND_WRITE)?, true);
-    assert_eq!(rt; is_same_at_every_cut(rt.alloc(), &SYNC_AND_READ)?, true);
+    let alloc = rt.alloc();
+    assert!(rt; is_same_at_every_cut(alloc, &SYNC_AND_WRITE, &SYNC_AND_WRITE)?);
+    assert!(rt; is_same_at_every_cut(alloc, &SYNC_AND_READ, &SYNC_AND_READ)?);
+    assert!(rt; is_same_at_every_cut(alloc, &HELLOS, &HELLOS_AGAIN)?);
     Ok(())
 }
 
@@ -128,6 +147,34 @@ fn a_fault_counts_from_the_first_byte_and_stays(rt: HostRuntime) -> Result<(), F
         drain(&mut framer, &mut out).err(),
         Some(translation_at(86))
     );
+    Ok(())
+}
+
+#[test]
+fn a_header_that_asks_for_too_much_is_refused_at_once(rt: HostRuntime) -> Result<(), Fail> {
+    let mut framer = Framer::make(rt.alloc());
+    framer.feed(&TOO_LONG[..19])?;
+    assert_eq!(rt; framer.ready(), false);
+    framer.feed(&TOO_LONG[19..])?;
+    let refused = FrameFault::Malformed(PacketFault {
+        start: 0,
+        place: 4,
+        cause: Cause::TooLong { len: 65537 },
+    });
+    assert_eq!(rt; framer.next().err(), Some(refused));
+    Ok(())
+}
+
+#[test]
+fn taking_one_of_many_packets_moves_no_other(rt: HostRuntime) -> Result<(), Fail> {
+    let mut framer = Framer::make(rt.alloc());
+    for _ in 0..100_000 {
+        framer.feed(&SYNC_AND_READ[..28])?;
+    }
+    for _ in 0..100_000 {
+        assert!(rt; framer.next()?.is_some());
+    }
+    assert!(rt; framer.next()?.is_none());
     Ok(())
 }
 
