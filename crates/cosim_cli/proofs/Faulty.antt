@@ -2,7 +2,7 @@
 use Rattle.std.proofs.Common.{ℕ, ◌≡◌, ◌+◌, ◌≤◌, ◌⊎◌, List, [], ◌∷◌, ◌++◌, length, take, codes, refl, ap, sym, ◌∙◌, subst, inl, inr}
 use Rattle.std.proofs.Math.Seq.{take-length}
 use Rattle.std.proofs.lemmas.List.{append-nil}
-use Rattle.cosim_cli.specs.Words.{Command, Device, Show, Asm, Dis, Help, words_of, IsCommand, Begins, IsFaulty}
+use Rattle.cosim_cli.specs.Words.{Command, Device, Show, Pack, Asm, Dis, Help, words_of, IsCommand, Begins, IsFaulty}
 use Rattle.cosim_cli.specs.Forms.{Word, Exact, Any, Fits, FitsSome, BeginsSome, FaultyIn, forms}
 
 -- words of a form with one word, and with three of which one may be any
@@ -35,17 +35,19 @@ fits-words a (u ∷ v ∷ w ∷ x ∷ ws) fits = absurd fits.1.1.1
 pub forms-commands : (ws : List (List ℕ)) → FitsSome forms ws → IsCommand ws
 forms-commands ws (inl fits) = let by = fits-three (codes "device") (codes "null") ws fits in (Device by.0, by.1)
 forms-commands ws (inr (inl fits)) = let by = fits-word (codes "show") ws fits in (Show by.0, by.1)
-forms-commands ws (inr (inr (inl fits))) = let by = fits-words (codes "asm") ws fits in (Asm by.0 by.1, by.2)
-forms-commands ws (inr (inr (inr (inl fits)))) = let by = fits-word (codes "dis") ws fits in (Dis by.0, by.1)
-forms-commands ws (inr (inr (inr (inr (inl fits))))) = (Help, fits-one (codes "help") ws fits)
-forms-commands ws (inr (inr (inr (inr (inr fits))))) = absurd fits
+forms-commands ws (inr (inr (inl fits))) = let by = fits-word (codes "pack") ws fits in (Pack by.0, by.1)
+forms-commands ws (inr (inr (inr (inl fits)))) = let by = fits-words (codes "asm") ws fits in (Asm by.0 by.1, by.2)
+forms-commands ws (inr (inr (inr (inr (inl fits))))) = let by = fits-word (codes "dis") ws fits in (Dis by.0, by.1)
+forms-commands ws (inr (inr (inr (inr (inr (inl fits)))))) = (Help, fits-one (codes "help") ws fits)
+forms-commands ws (inr (inr (inr (inr (inr (inr fits)))))) = absurd fits
 
 pub command-fits : (c : Command) → FitsSome forms (words_of c)
 command-fits (Device socket) = inl (refl, (tt, (refl, tt)))
 command-fits (Show file) = inr (inl (refl, (tt, tt)))
-command-fits (Asm file out) = inr (inr (inl (refl, (tt, (tt, tt)))))
-command-fits (Dis file) = inr (inr (inr (inl (refl, (tt, tt)))))
-command-fits Help = inr (inr (inr (inr (inl (refl, tt)))))
+command-fits (Pack file) = inr (inr (inl (refl, (tt, tt))))
+command-fits (Asm file out) = inr (inr (inr (inl (refl, (tt, (tt, tt))))))
+command-fits (Dis file) = inr (inr (inr (inr (inl (refl, (tt, tt))))))
+command-fits Help = inr (inr (inr (inr (inr (inl (refl, tt))))))
 
 pub commands-forms : (ws : List (List ℕ)) → IsCommand ws → FitsSome forms ws
 commands-forms ws (c, is) = subst (FitsSome forms) (sym is) (command-fits c)

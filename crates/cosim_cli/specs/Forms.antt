@@ -36,6 +36,7 @@ abbrev pub forms : List (List Word)
 forms =
     (Exact (codes "device") ∷ Any ∷ Exact (codes "null") ∷ [])
     ∷ (Exact (codes "show") ∷ Any ∷ [])
+    ∷ (Exact (codes "pack") ∷ Any ∷ [])
     ∷ (Exact (codes "asm") ∷ Any ∷ Any ∷ [])
     ∷ (Exact (codes "dis") ∷ Any ∷ [])
     ∷ (Exact (codes "help") ∷ [])

@@ -8,13 +8,14 @@ use Rattle.cosim_status.specs.declared.status.Status.{Status}
 use Rattle.cosim_status.specs.declared.status.Status.TheVariants as status
 use Rattle.cosim_assembly.specs.Assemblies.{AsmComes}
 use Rattle.cosim_assembly.specs.Listings.{DisComes}
+use Rattle.cosim_packets.specs.Packed.{Packed}
 use Rattle.cosim_packets.specs.Shown.{Shown}
 use Rattle.cosim_status.specs.Outcomes.{Outcome, OfFile, Seen, IsUntouched, Blames, Ends, MeetsOne, MeetsEach}
 use Rattle.cosim_cli.specs.Causes.{NetBlames, BlamesSoundly, Lacks}
 use Rattle.cosim_cli.specs.Help.{Helps}
 use Rattle.cosim_cli.specs.Names.{DeviceNames}
 use Rattle.cosim_cli.specs.Talks.{TopTalks, Completes}
-use Rattle.cosim_cli.specs.Words.{Command, Device, Show, Asm, Dis, Help, words_of}
+use Rattle.cosim_cli.specs.Words.{Command, Device, Show, Pack, Asm, Dis, Help, words_of}
 
 -- what is around a call: its objects before and after it, whether they are sound before it, the room of `out`, and what the links of the network tell and count
 pub record Around (L : Type 0) : Type 1 where
@@ -57,6 +58,7 @@ pub record Serves {L : Type 0} (socket : List ℕ) (a : Around L) (s : Status) :
 abbrev pub Keeps : {L : Type 0} → Command → Around L → Status → Type 0
 Keeps (Device socket) a s = Serves socket a s
 Keeps (Show file) a s = Performs (OfFile file Shown a.files.old) [] a s
+Keeps (Pack file) a s = Performs (OfFile file Packed a.files.old) [] a s
 Keeps (Asm file out) a s = Performs (AsmComes file out a.files.old) (out ∷ []) a s
 Keeps (Dis file) a s = Performs (DisComes file a.files.old) [] a s
 Keeps Help a s = Performs Helps [] a s

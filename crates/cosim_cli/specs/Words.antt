@@ -9,6 +9,7 @@ use Rattle.cosim_cli.specs.declared.words.Command.TheVariants as read
 pub data Command : Type 0 where
   Device : List ℕ → Command
   Show : List ℕ → Command
+  Pack : List ℕ → Command
   Asm : List ℕ → List ℕ → Command
   Dis : List ℕ → Command
   Help : Command
@@ -16,6 +17,7 @@ pub data Command : Type 0 where
 abbrev pub words_of : Command → List (List ℕ)
 words_of (Device socket) = codes "device" ∷ socket ∷ codes "null" ∷ []
 words_of (Show file) = codes "show" ∷ file ∷ []
+words_of (Pack file) = codes "pack" ∷ file ∷ []
 words_of (Asm file out) = codes "asm" ∷ file ∷ out ∷ []
 words_of (Dis file) = codes "dis" ∷ file ∷ []
 words_of Help = codes "help" ∷ []
@@ -24,6 +26,7 @@ words_of Help = codes "help" ∷ []
 abbrev pub asked : Read → Command
 asked (read.Device socket) = Device socket.now
 asked (read.Show file) = Show file.now
+asked (read.Pack file) = Pack file.now
 asked (read.Asm file out) = Asm file.now out.now
 asked (read.Dis file) = Dis file.now
 asked read.Help = Help

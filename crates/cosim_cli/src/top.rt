@@ -10,7 +10,7 @@ use crate::help::help;
 use crate::words::{Command, command_of, stop_of};
 use cos_base::{Files, Network, Sink};
 use cosim_assembly::{asm, dis};
-use cosim_packets::show;
+use cosim_packets::{pack, show};
 use cosim_status::{Status, tell_status};
 use std::alloc::Global;
 
@@ -37,6 +37,7 @@ fn perform<F: Files, K: Sink, N: Network>(
     match command {
         Command::Device { socket } => device(alloc, socket, net),
         Command::Show { file } => show(alloc, file, files, out),
+        Command::Pack { file } => pack(alloc, file, files, out),
         Command::Asm { file, out: target } => asm(alloc, file, target, files),
         Command::Dis { file } => dis(alloc, file, files, out),
         Command::Help => help(out),
@@ -72,8 +73,14 @@ fn work<F: Files, K: Sink, N: Network>(
 
 /// The program. `words` are those after its name; the line of a status other than Done goes to `err`.
 ///
-/// `device SOCKET null` connects to SOCKET, answers as a null device until the machine closes the stream, and prints nothing.
-/// `help` prints a line for each command, those that are still to come among them.
+/// | Words | Work |
+/// |---|---|
+/// | `device SOCKET null` | connects to SOCKET, answers as a null device until the machine closes the stream, and prints nothing |
+/// | `show FILE` | prints a line for each packet of a stream; before a refusal those of the packets before it |
+/// | `pack FILE` | prints the canonical bytes of a text of packets |
+/// | `asm FILE OUT` | writes the image of an assembly to OUT, and prints nothing |
+/// | `dis FILE` | prints the words of an image, a line each |
+/// | `help` | prints a line for each command, those that are still to come among them |
 pub fn cosim<F: Files, K: Sink, E: Sink, N: Network>(
     alloc: Global,
     words: &[String],

@@ -10,6 +10,8 @@ pub enum Command<'a> {
     Device { socket: &'a str },
     /// Print the packets of a stream.
     Show { file: &'a str },
+    /// Print the bytes of a text of packets.
+    Pack { file: &'a str },
     /// Write the image of an assembly.
     Asm { file: &'a str, out: &'a str },
     /// Print the words of an image.
@@ -136,6 +138,12 @@ pub fn command_of(words: &[String]) -> Result<Command<'_>, u64>
     if is_word(verb, "show") {
         return match one_word(after) {
             Ok(file) => Ok(Command::Show { file }),
+            Err(index) => Err(index + 1),
+        };
+    }
+    if is_word(verb, "pack") {
+        return match one_word(after) {
+            Ok(file) => Ok(Command::Pack { file }),
             Err(index) => Err(index + 1),
         };
     }

@@ -11,7 +11,42 @@ pub returns-in-Err-clause-err : goal.returns-in-Err-clause-err
 returns-in-Err-clause-err c =
     faulty-of _ _ (faulty-word forms ((Any ∷ Exact (codes "null") ∷ []) ∷ []) (codes "device") _ _ _ _ c.in-Some.ensures (c.is_word.ensures.yes c.if-is_word.true) refl c.in-Err.ensures.err)
 
+-- show
+pub returns-in-Err-one_word-clause-err : goal.returns-in-Err-one_word-clause-err
+returns-in-Err-one_word-clause-err c =
+    faulty-of _ _ (faulty-word forms ((Any ∷ []) ∷ []) (codes "show") _ _ _ _ c.in-Some.ensures (c.is_word-2.ensures.yes c.if-is_word-2.true) refl c.in-Err-one_word.ensures.err)
+
+-- pack
+pub returns-in-Err-one_word-2-clause-err : goal.returns-in-Err-one_word-2-clause-err
+returns-in-Err-one_word-2-clause-err c =
+    faulty-of _ _ (faulty-word forms ((Any ∷ []) ∷ []) (codes "pack") _ _ _ _ c.in-Some.ensures (c.is_word-3.ensures.yes c.if-is_word-3.true) refl c.in-Err-one_word-2.ensures.err)
+
+-- asm
+pub returns-in-Err-two_words-clause-err : goal.returns-in-Err-two_words-clause-err
+returns-in-Err-two_words-clause-err c =
+    faulty-of _ _ (faulty-word forms ((Any ∷ Any ∷ []) ∷ []) (codes "asm") _ _ _ _ c.in-Some.ensures (c.is_word-4.ensures.yes c.if-is_word-4.true) refl c.in-Err-two_words.ensures.err)
+
+-- dis
+pub returns-in-Err-one_word-3-clause-err : goal.returns-in-Err-one_word-3-clause-err
+returns-in-Err-one_word-3-clause-err c =
+    faulty-of _ _ (faulty-word forms ((Any ∷ []) ∷ []) (codes "dis") _ _ _ _ c.in-Some.ensures (c.is_word-5.ensures.yes c.if-is_word-5.true) refl c.in-Err-one_word-3.ensures.err)
+
 pub returns-clause-err : goal.returns-clause-err
 returns-clause-err c =
     faulty-of _ _ (faulty-here forms _ _ _ c.in-Some.ensures
-    (behind-none _ forms (c.is_word.ensures.no c.if-is_word.false, (c.is_word-2.ensures.no c.if-is_word-2.false, tt))) begins-forms)
+    (behind-none _ forms (
+      c.is_word.ensures.no c.if-is_word.false,
+      (
+        c.is_word-2.ensures.no c.if-is_word-2.false,
+        (
+          c.is_word-3.ensures.no c.if-is_word-3.false,
+          (
+            c.is_word-4.ensures.no c.if-is_word-4.false,
+            (
+              c.is_word-5.ensures.no c.if-is_word-5.false,
+              (c.is_word-6.ensures.no c.if-is_word-6.false, tt),
+            ),
+          ),
+        ),
+      ),
+    )) begins-forms)
