@@ -1,5 +1,5 @@
 -- The address map: its parts, and the first fault that keeps windows from being one.
-use Rattle.std.specs.Prelude.{◌≡◌, ℕ, ◌+◌, ◌%◌, Bool, ◌&&◌, ◌||◌, not, nat_lt, nat_le, nat_eq, if◌then◌else◌, List, [], ◌∷◌, Option, Some, None, Result, Ok, Err}
+use Rattle.std.specs.Prelude.{◌≡◌, ℕ, ◌+◌, ◌%◌, ◌<◌, ◌≤◌, Bool, ◌&&◌, ◌||◌, not, nat_lt, nat_le, nat_eq, if◌then◌else◌, List, [], ◌∷◌, Option, Some, None, Result, Ok, Err, length, slice_index_or}
 use Rattle.sys_bus.specs.declared.map.Window.{Window}
 use Rattle.sys_bus.specs.declared.map.Part.{Part}
 use Rattle.sys_bus.specs.declared.map.MapFault.{MapFault}
@@ -51,6 +51,16 @@ parts_of windows ram = record { base = 2147483648; size = ram } ∷ record { bas
 -- The first fault of windows beside RAM of a size.
 abbrev pub fault_found : List Window → ℕ → Option MapFault
 fault_found windows ram = or_else (misaligned_found 0 windows) (overlap_found 0 (parts_of windows ram))
+
+-- No address is in two parts.
+abbrev pub part_at : List Part → ℕ → Part
+part_at ps k = slice_index_or ps k (record { base = 0; size = 0 })
+
+abbrev pub IsIn : Part → ℕ → Type 0
+IsIn x addr = (x.base ≤ addr) × (addr < x.base + x.size)
+
+abbrev pub AreApart : List Part → Type 0
+AreApart ps = (i j : ℕ) → i < j → j < length ps → (addr : ℕ) → IsIn (part_at ps i) addr → IsIn (part_at ps j) addr → ⊥
 
 -- What making a map answers.
 abbrev pub Maps : List Window → ℕ → Result MapState MapFault → Type 0

@@ -1,6 +1,6 @@
 // The address map.
-ghost use Rattle.std.specs.Prelude.{◌≡◌, ◌+◌, ◌<◌, ◌^◌, ◌++◌, [], ◌∷◌, length, drop, slice_index_or, IsTrue, IfOk, IfSome, Some, None, ◌≤◌};
-ghost use Rattle.sys_bus.specs.Maps.{passes_end, share_an_address, shared_found, overlap_found, misaligned, misaligned_found, parts_of, holds, window_from, Maps};
+ghost use Rattle.std.specs.Prelude.{◌≡◌, ◌+◌, ◌<◌, ◌^◌, ◌++◌, [], ◌∷◌, length, drop, slice_index_or, IsTrue, IfOk, OnOk, IfSome, Some, None, ◌≤◌};
+ghost use Rattle.sys_bus.specs.Maps.{passes_end, share_an_address, shared_found, overlap_found, misaligned, misaligned_found, parts_of, AreApart, holds, window_from, Maps};
 
 use cos_base::NoMemory;
 use std::alloc::Global;
@@ -157,7 +157,9 @@ fn overlap(all: &[Part]) -> Option<MapFault>
 impl Map {
     /// The map of these windows beside RAM of a size.
     pub fn make(alloc: Global, windows: &[Window], ram: u32) -> Result<Map, MapFault>
-        ensures { Maps windows.now ram result }
+        ensures maps { Maps windows.now ram result }
+        // so it doesn't matter in which order an address is looked for
+        ensures apart { OnOk result (AreApart (parts_of windows.now ram)) }
     {
         if let Some(fault) = misaligned_window(windows) {
             return Err(fault);
