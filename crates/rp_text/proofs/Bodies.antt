@@ -1,12 +1,11 @@
 -- The words of each kind of packet, taken one by one.
-use Rattle.std.proofs.Common.{◌≡◌, ℕ, ◌^◌, ◌<◌, ◌≤◌, List, [], ◌∷◌, ◌++◌, map, decimal, Option, Some, None, refl, sym, ap, ◌∙◌, arith}
+use Rattle.std.proofs.Common.{◌≡◌, ℕ, List, [], ◌∷◌, map, decimal, Option, Some, refl, ap, ◌∙◌, arith}
 use Rattle.cosim_model.specs.Packets.{Body, BusFields, command_of}
 use Rattle.cosim_model.specs.Packets.Body.{Nop, Hello, Cfg, Read, Write, Interrupt, Sync}
-use Rattle.cosim_model.specs.declared.session.Command.{Command}
 use Rattle.cosim_model.specs.declared.session.Command.TheVariants as command
 use Rattle.rp_packet.specs.declared.packet.Tag.{Tag}
 use Rattle.rp_packet.specs.Spelling.{BodyFits}
-use Rattle.rp_text.specs.Texts.{hex_text, bytes_text, spaced, bus_words, body_words, HoldsBytes}
+use Rattle.rp_text.specs.Texts.{hex_text, bytes_text, spaced, body_words, HoldsBytes}
 use Rattle.rp_text.specs.Reading.{TakesNumber, TakesHex, TakesBytes, TakesTag, TakesCaps, TakesBus, TakesBody}
 
 abbrev tag-of : ℕ → ℕ → ℕ → Tag

@@ -1,5 +1,5 @@
 -- The capabilities of a hello, taken one by one.
-use Rattle.std.proofs.Common.{◌≡◌, ℕ, suc, ◌+◌, ◌^◌, ◌<◌, ◌≤◌, List, [], ◌∷◌, ◌++◌, length, map, decimal, Option, Some, None, refl, sym, ap, ◌∙◌, subst, arith, append_assoc, length-append, zero, Bool, true, false}
+use Rattle.std.proofs.Common.{◌≡◌, ℕ, suc, ◌^◌, ◌<◌, List, [], ◌∷◌, ◌++◌, map, decimal, Option, Some, None, refl, sym, ap, ◌∙◌, subst, arith, append_assoc, length-append, zero, Bool, true, false}
 use Rattle.std.specs.Prelude.{slice_index}
 use Rattle.std.proofs.lemmas.List.{append-nil}
 use Rattle.rp_control.specs.Controls.{AreWords}

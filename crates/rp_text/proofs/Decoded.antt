@@ -1,11 +1,10 @@
 -- Bytes and the digits that they are written with.
-use Rattle.std.proofs.Common.{◌≡◌, ℕ, zero, suc, ◌+◌, ◌*◌, ◌/◌, ◌%◌, ◌<◌, ◌≤◌, Bool, true, false, List, [], ◌∷◌, ◌++◌, length, get_or, take, drop, refl, sym, ap, ◌∙◌, subst, arith, Result, Ok, Err, append_assoc, length-append}
+use Rattle.std.proofs.Common.{◌≡◌, ℕ, zero, suc, ◌*◌, ◌/◌, ◌%◌, ◌<◌, true, List, [], ◌∷◌, ◌++◌, length, take, drop, refl, sym, ap, ◌∙◌, subst, arith, Ok, append_assoc}
 use Rattle.std.specs.Prelude.{min, slice_index}
 use Rattle.std.proofs.Math.Seq.{take-append_seam, drop-append_seam}
 use Rattle.std.proofs.lemmas.List.{append-nil, take-append-drop, length-take}
 use Rattle.hex.specs.Hex.{encode_with, encode_lower, lower_digits, decode_pairs, decode_sized, hex_digit_value}
-use Rattle.hex.specs.declared.error.FromHexError.{FromHexError}
-use Rattle.hex.proofs.HexLemmas.{length-encode_with, decode_pairs-encode_with, decode_pairs-ok, IsDigits-lower_digits}
+use Rattle.hex.proofs.HexLemmas.{length-encode_with, decode_pairs-encode_with, IsDigits-lower_digits}
 use Rattle.hex.proofs.Pairs.{decode_sized-pairs}
 use Rattle.rp_header.specs.Numbers.{AreBytes}
 use Rattle.rp_text.specs.Texts.{bytes_text}

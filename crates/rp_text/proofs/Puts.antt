@@ -1,8 +1,8 @@
 -- Words that are put one behind the other.
-use Rattle.std.proofs.Common.{◌≡◌, ℕ, suc, ◌+◌, ◌*◌, ◌<◌, ◌≤◌, List, [], ◌∷◌, ◌++◌, length, get_or, take, drop, map, decimal, refl, sym, ap, ◌∙◌, arith, add-one, append_assoc}
+use Rattle.std.proofs.Common.{◌≡◌, ℕ, ◌+◌, ◌<◌, List, [], ◌∷◌, ◌++◌, length, get_or, take, drop, map, decimal, refl, sym, ap, ◌∙◌, arith, add-one, append_assoc}
 use Rattle.std.proofs.Math.Seq.{drop-cons}
 use Rattle.std.proofs.lemmas.List.{take-append-drop, append-nil}
-use Rattle.hex.specs.Hex.{encode_with, encode_lower, lower_digits}
+use Rattle.hex.specs.Hex.{encode_with, encode_lower}
 use Rattle.rp_text.specs.Texts.{spaced, bytes_text}
 
 pub put-word : (a b c w : List ℕ) (ws : List (List ℕ)) → b ≡ a ++ (32 ∷ w) → c ≡ b ++ spaced ws → c ≡ a ++ spaced (w ∷ ws)

@@ -1,8 +1,8 @@
 -- What was taken of a line.
-use Rattle.std.proofs.Common.{◌≡◌, ℕ, suc, ◌+◌, ◌^◌, ◌<◌, ◌≤◌, Bool, true, false, List, [], ◌∷◌, ◌++◌, length, drop, decimal, Option, Some, None, refl, sym, ap, ◌∙◌, subst, arith}
+use Rattle.std.proofs.Common.{◌≡◌, ℕ, ◌^◌, ◌<◌, ◌≤◌, List, [], ◌∷◌, ◌++◌, drop, decimal, Option, Some, None, sym, ap, ◌∙◌, arith}
 use Rattle.std.specs.Prelude.{unwrap_or}
 use Rattle.rp_text.specs.Texts.{hex_text, bytes_text, spaced}
-use Rattle.rp_text.specs.Words.{first_word, rest_of_words, no_blank}
+use Rattle.rp_text.specs.Words.{first_word, rest_of_words}
 use Rattle.rp_text.specs.Reading.{TakesWord, TakesNumber, TakesHex, TakesBytes}
 use Rattle.rp_header.specs.Numbers.{AreBytes}
 use Rattle.rp_text.proofs.Decoded.{no_blank-bytes, bytes-first}

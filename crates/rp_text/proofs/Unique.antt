@@ -1,5 +1,5 @@
 -- A line is that of one packet at most: what stands in it can be taken in one way alone.
-use Rattle.std.proofs.Common.{◌≡◌, ℕ, ◌^◌, ◌<◌, ◌≤◌, List, [], ◌∷◌, ◌++◌, length, drop, map, decimal, Option, Some, None, refl, sym, ap, ◌∙◌, arith, Bool, true, false, Result, Ok, Err}
+use Rattle.std.proofs.Common.{◌≡◌, ℕ, ◌^◌, ◌<◌, ◌≤◌, List, [], ◌∷◌, ◌++◌, map, decimal, Some, refl, sym, ap, ◌∙◌, arith, true, false, Result, Ok}
 use Rattle.std.specs.Fmt.{digits}
 use Rattle.std.proofs.lemmas.Fmt.{decimal_injective}
 use Rattle.cosim_model.specs.Packets.{Packet, Body, BusFields, command_of}
@@ -12,15 +12,15 @@ use Rattle.rp_header.specs.Numbers.{AreBytes}
 use Rattle.rp_packet.specs.Spelling.{BusFits, BodyFits}
 use Rattle.rp_packet.specs.declared.packet.Tag.{Tag}
 use Rattle.rp_text.specs.Texts.{hex_text, bytes_text, name_of, spaced, bus_words, body_words, packet_text, HoldsBytes, IsPackable}
-use Rattle.rp_text.specs.Words.{first_word, rest_of_words, no_blank, left}
+use Rattle.rp_text.specs.Words.{no_blank, left}
 use Rattle.rp_text.specs.Reading.{TakesWord, TakesNumber, TakesHex, TakesBytes, TakesTag, TakesCaps, TakesBus, TakesBody}
 use Rattle.rp_text.proofs.Cuts.{cut-word, cut-of}
 use Rattle.rp_text.proofs.Digits.{no_blank-decimal, no_blank-hex, is-hex}
-use Rattle.rp_text.proofs.Decoded.{no_blank-bytes, no-bytes, digits-of-bytes}
+use Rattle.rp_text.proofs.Decoded.{no_blank-bytes, no-bytes}
 use Rattle.rp_text.proofs.Takes.{takes-word, takes-number, takes-hex, takes-bytes, some-same}
 use Rattle.rp_text.proofs.Caps.{words-tail}
 use Rattle.rp_text.proofs.Bodies.{takes-tag, takes-bus, takes-nop, takes-hello, takes-cfg, takes-read, takes-write, takes-interrupt, takes-sync}
-use Rattle.rp_text.proofs.Named.{line-exact, front-named, same-command, no_blank-name, names-apart}
+use Rattle.rp_text.proofs.Named.{line-exact, front-named, no_blank-name, names-apart}
 
 word-there : (w : List ℕ) (ws : List (List ℕ)) → no_blank w ≡ true → TakesWord (Some (spaced (w ∷ ws))) (Some w) (Some (spaced ws))
 word-there w ws none =

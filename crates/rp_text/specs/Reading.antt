@@ -1,5 +1,5 @@
 -- What reading the words of a line does. What is left of the line is a list of bytes, or none after a word that was refused.
-use Rattle.std.specs.Prelude.{◌≡◌, ℕ, ◌<◌, ◌≤◌, ◌^◌, Bool, true, List, [], ◌∷◌, ◌++◌, decimal, map, Option, Some, None}
+use Rattle.std.specs.Prelude.{◌≡◌, ℕ, ◌<◌, ◌≤◌, ◌^◌, true, List, [], ◌∷◌, ◌++◌, decimal, map, Option, Some, None}
 use Rattle.cosim_model.specs.Packets.{Body, BusFields, command_of}
 use Rattle.cosim_model.specs.declared.session.Command.{Command}
 use Rattle.rp_control.specs.Controls.{AreWords}

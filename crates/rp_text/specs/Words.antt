@@ -1,5 +1,5 @@
 -- How a line is cut into words at its blanks.
-use Rattle.std.specs.Prelude.{◌≡◌, ℕ, ◌==◌, ◌&&◌, not, Bool, true, false, List, [], ◌∷◌, cond, length, Option, Some, None}
+use Rattle.std.specs.Prelude.{ℕ, ◌==◌, ◌&&◌, not, Bool, true, List, [], ◌∷◌, cond, length, Option, Some, None}
 
 -- what stands before the first blank
 abbrev pub first_word : List ℕ → List ℕ

@@ -1,4 +1,4 @@
-use Rattle.std.proofs.Common.{◌≡◌, ap, sym, ◌∙◌, subst}
+use Rattle.std.proofs.Common.{sym, subst}
 use Rattle.cosim_model.specs.Packets.{Packet, command_of}
 use Rattle.rp_packet.specs.Spelling.{Writable}
 use Rattle.rp_packet.specs.Values.{value_of}

@@ -1,4 +1,4 @@
-use Rattle.std.proofs.Common.{◌≡◌, ◌+◌, ◌*◌, ◌-◌, ◌≤◌, ◌++◌, ◌∷◌, length, drop, map, decimal}
+use Rattle.std.proofs.Common.{◌≡◌, ◌+◌, ◌*◌, ◌≤◌, ◌++◌, ◌∷◌, drop, map, decimal}
 use Rattle.rp_text.specs.Texts.{spaced}
 use Rattle.rp_text.proofs.words_out.put_hello.Given as goal
 

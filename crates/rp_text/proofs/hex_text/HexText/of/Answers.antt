@@ -1,6 +1,6 @@
 use Rattle.std.proofs.Common.{refl, arith, ◌∙◌}
 use Rattle.std.proofs.lemmas.List.{length-set}
-use Rattle.rp_text.proofs.Hexadecimal.{made-first, made-more, made-all, has-room}
+use Rattle.rp_text.proofs.Hexadecimal.{made-first, made-more, has-room}
 use Rattle.rp_text.proofs.hex_text.HexText.of.Goals as goal
 
 pub loop-rest-init : goal.loop-rest-init

@@ -1,4 +1,3 @@
-use Rattle.std.proofs.Common.{arith}
 use Rattle.rp_text.proofs.Takes.{takes-hex, refused-hex, absent-hex, number-same}
 use Rattle.rp_text.proofs.words_in.Words.hex.Goals as goal
 
