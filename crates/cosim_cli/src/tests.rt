@@ -1,5 +1,5 @@
 use crate::cosim;
-use cos_base::{MemFiles, MemLink, MemNet, MemSink, NoMemory, Numbers, Octets, Said};
+use cos_base::{Files, MemFiles, MemLink, MemNet, MemSink, NoMemory, Numbers, Octets, Said};
 use std::alloc::{AllocError, Global};
 use std::test::Fail;
 
@@ -177,5 +177,193 @@ fn the_help_text_is_printed(rt: HostRuntime) -> Result<(), Fail> {
     let status = cosim(alloc, &words, &mut files, &mut full, &mut err, &mut net);
     assert_eq!(rt; status.code(), 5);
     assert_eq!(rt; err.bytes(), b"cosim: outside: out 1\n".as_slice());
+    Ok(())
+}
+
+/// The files of the tests: a sync request, a hello before a part of it, texts that mean something and texts that don't, and an image.
+fn files_of(alloc: Global, failing: Numbers) -> Result<MemFiles, NoMemory> {
+    let mut files = MemFiles::make(alloc, failing);
+    for (name, bytes) in [
+        ("stream", &STREAM[44..72]),
+        ("cut", &STREAM[..50]),
+        ("text", b"sync 7 0 0 1000\n".as_slice()),
+        ("no text", b"sync 7 0 0 1000 \n".as_slice()),
+        ("code", b"ecall\n".as_slice()),
+        ("no code", b"ecall\nnop\n".as_slice()),
+        ("image", [0x73, 0, 0, 0].as_slice()),
+        ("no image", [0x73, 0, 0, 0, 0].as_slice()),
+        ("empty", [].as_slice()),
+    ] {
+        let mut held = Octets::make(alloc);
+        held.push_all(bytes)?;
+        files.add(name, held)?;
+    }
+    Ok(files)
+}
+
+/// Whether the program ends so over these files: with this number and line, and with this text on `out`, which has room for 100 bytes.
+fn works(
+    alloc: Global,
+    words: &[&str],
+    files: &mut MemFiles,
+    failing: Numbers,
+    code: u8,
+    text: &[u8],
+    line: &str,
+) -> Result<bool, NoMemory> {
+    let mut net = net_of(alloc, &[], 0, Numbers::make(alloc))?;
+    let mut out = MemSink::make(alloc, 100, failing)?;
+    let mut err = MemSink::make(alloc, 100, Numbers::make(alloc))?;
+    let words = match list(alloc, words) {
+        Ok(words) => words,
+        Err(_) => return Err(NoMemory),
+    };
+    let status = cosim(alloc, &words, files, &mut out, &mut err, &mut net);
+    Ok(status.code() == code && out.bytes() == text && err.bytes() == line.as_bytes())
+}
+
+#[test]
+fn commands_over_files_print_or_refuse(rt: HostRuntime) -> Result<(), Fail> {
+    let alloc = rt.alloc();
+    let hello = b"hello 0 0 0 4 3 1 2 3\n".as_slice();
+    for (verb, file, code, text, line) in [
+        ("show", "stream", 0, b"sync 7 0 0 1000\n".as_slice(), ""),
+        ("show", "empty", 0, b"".as_slice(), ""),
+        ("show", "cut", 3, hello, "cosim: input: Truncated 44 6\n"),
+        (
+            "show",
+            "absent",
+            5,
+            b"".as_slice(),
+            "cosim: outside: files 1\n",
+        ),
+        ("pack", "text", 0, &STREAM[44..72], ""),
+        ("pack", "empty", 0, b"".as_slice(), ""),
+        (
+            "pack",
+            "no text",
+            3,
+            b"".as_slice(),
+            "cosim: input: Line 1\n",
+        ),
+        (
+            "pack",
+            "absent",
+            5,
+            b"".as_slice(),
+            "cosim: outside: files 1\n",
+        ),
+        ("dis", "image", 0, b"ecall\n".as_slice(), ""),
+        ("dis", "empty", 0, b"".as_slice(), ""),
+        (
+            "dis",
+            "no image",
+            3,
+            b"".as_slice(),
+            "cosim: input: Words 5\n",
+        ),
+        (
+            "dis",
+            "absent",
+            5,
+            b"".as_slice(),
+            "cosim: outside: files 1\n",
+        ),
+    ] {
+        let mut files = files_of(alloc, Numbers::make(alloc))?;
+        let words = [verb, file];
+        assert!(rt;
+            works(
+                alloc,
+                &words,
+                &mut files,
+                Numbers::make(alloc),
+                code,
+                text,
+                line
+            )?,
+            "{verb} {file}"
+        );
+    }
+    Ok(())
+}
+
+/// The bytes of a file, or none.
+fn held(alloc: Global, files: &mut MemFiles, name: &str) -> Octets {
+    match files.read(name) {
+        Ok(bytes) => bytes,
+        Err(_) => Octets::make(alloc),
+    }
+}
+
+#[test]
+fn asm_writes_its_image_or_nothing(rt: HostRuntime) -> Result<(), Fail> {
+    let alloc = rt.alloc();
+    for (file, code, image, line) in [
+        ("code", 0, [0x73, 0, 0, 0].as_slice(), ""),
+        (
+            "no code",
+            3,
+            [].as_slice(),
+            "cosim: input: Assembly 2 Name\n",
+        ),
+        ("absent", 5, [].as_slice(), "cosim: outside: files 1\n"),
+    ] {
+        let mut files = files_of(alloc, Numbers::make(alloc))?;
+        let words = ["asm", file, "out"];
+        assert!(rt;
+            works(
+                alloc,
+                &words,
+                &mut files,
+                Numbers::make(alloc),
+                code,
+                b"",
+                line
+            )?,
+            "{file}"
+        );
+        assert_eq!(rt; held(alloc, &mut files, "out").as_slice(), image);
+    }
+    Ok(())
+}
+
+#[test]
+fn a_call_that_fails_is_blamed(rt: HostRuntime) -> Result<(), Fail> {
+    let alloc = rt.alloc();
+    // the first read, and the write behind it
+    for (words, call) in [
+        (["show", "stream"].as_slice(), 0),
+        (["asm", "code", "out"].as_slice(), 1),
+    ] {
+        let mut files = files_of(alloc, numbers(alloc, 1, call)?)?;
+        assert!(rt;
+            works(
+                alloc,
+                words,
+                &mut files,
+                Numbers::make(alloc),
+                5,
+                b"",
+                "cosim: outside: files 1\n"
+            )?
+        );
+    }
+    // the first put
+    for verb in ["show", "dis"] {
+        let mut files = files_of(alloc, Numbers::make(alloc))?;
+        let words = [verb, if verb == "show" { "stream" } else { "image" }];
+        assert!(rt;
+            works(
+                alloc,
+                &words,
+                &mut files,
+                numbers(alloc, 1, 0)?,
+                5,
+                b"",
+                "cosim: outside: out 1\n"
+            )?
+        );
+    }
     Ok(())
 }

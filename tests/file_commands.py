@@ -1,0 +1,136 @@
+#!/usr/bin/env python3
+"""Starts the built program as a process for the commands over files, on real files.
+
+The program is crates/cosim/out/cosim, where `rt ci` and `rt run` leave it; where it isn't there, `rt run` builds it.
+Every row compares the status, what was written on standard output and error, and what is in the file that `asm` writes.
+The script ends with 1 on any mismatch.
+"""
+
+import os
+import subprocess
+import sys
+import tempfile
+
+TOP = os.path.dirname(os.path.dirname(os.path.abspath(__file__)))
+CRATE = os.path.join(TOP, "crates", "cosim")
+PROGRAM = os.path.join(CRATE, "out", "cosim")
+SECONDS = 20
+
+# a hello with number 0, version 4.3 and the capabilities 1, 2 and 3, a sync request with number 7 at tick 1000, and their lines
+HELLO = bytes.fromhex("00000001 00000018 00000000 00000000 00000000 0004 0003 00000020 0003 0000 00000001 00000002 00000003")
+SYNC = bytes.fromhex("00000006 00000008 00000007 00000000 00000000 00000000000003e8")
+HELLO_LINE = b"hello 0 0 0 4 3 1 2 3\n"
+SYNC_LINE = b"sync 7 0 0 1000\n"
+# a header of a command that is reserved
+BAD_HEADER = bytes.fromhex("00000007 ffffffff 00000000 00000000 00000000")
+
+FILES = {
+    "stream": HELLO + SYNC,
+    "cut": HELLO + SYNC[:27],
+    "refused": HELLO + BAD_HEADER,
+    "empty": b"",
+    "text": HELLO_LINE + SYNC_LINE,
+    "no text": HELLO_LINE + b"Sync 7 0 0 1000\n",
+    "no utf8": b"\xff\n",
+    "code": b"start: addi x1, x0, 5\n       jal x0, start\n",
+    "no code": b"start: addi x1, x0, 5\nstart: ecall\n",
+    "image": bytes.fromhex("93005000 6ff0dfff"),
+    "five bytes": bytes(5),
+}
+
+# words, status, standard output, standard error
+ROWS = [
+    (["show", "stream"], 0, HELLO_LINE + SYNC_LINE, b""),
+    (["show", "empty"], 0, b"", b""),
+    (["show", "cut"], 3, HELLO_LINE, b"cosim: input: Truncated 44 27\n"),
+    (["show", "refused"], 3, HELLO_LINE, b"cosim: input: Malformed 44 0 Translation 7\n"),
+    (["show", "absent"], 5, b"", b"cosim: outside: files 1\n"),
+    (["show", "."], 5, b"", b"cosim: outside: files 1\n"),
+    (["pack", "text"], 0, HELLO + SYNC, b""),
+    (["pack", "empty"], 0, b"", b""),
+    (["pack", "no text"], 3, b"", b"cosim: input: Line 2\n"),
+    (["pack", "no utf8"], 3, b"", b"cosim: input: Line 1\n"),
+    (["pack", "absent"], 5, b"", b"cosim: outside: files 1\n"),
+    (["asm", "no code", "refused image"], 3, b"", b"cosim: input: Assembly 2 Twice\n"),
+    (["asm", "no utf8", "refused image"], 3, b"", b"cosim: input: Assembly 1 Syntax\n"),
+    (["asm", "code", "nowhere/out"], 5, b"", b"cosim: outside: files 1\n"),
+    (["asm", "code", "out"], 0, b"", b""),
+    (["dis", "out"], 0, b"addi x1, x0, 5\njal x0, -4\n", b""),
+    (["dis", "empty"], 0, b"", b""),
+    (["dis", "five bytes"], 3, b"", b"cosim: input: Words 5\n"),
+    (["dis", "absent"], 5, b"", b"cosim: outside: files 1\n"),
+    (["show"], 1, b"", b"cosim: usage at word 1\n"),
+    (["asm", "code"], 1, b"", b"cosim: usage at word 2\n"),
+    (["help", "dis"], 1, b"", b"cosim: usage at word 1\n"),
+    (["show", b"\xff"], 1, b"", b"cosim: usage at word 1\n"),
+]
+
+# words whose text goes to a full device
+FULL = [["show", "stream"], ["pack", "text"], ["dis", "image"], ["help"]]
+
+failures = []
+
+
+def check(row, what, got, wanted):
+    if got != wanted:
+        failures.append(f"{row}: {what} is {got!r}, and not {wanted!r}")
+
+
+def built():
+    """Builds the program where no run of the gate left it."""
+    if not os.path.exists(PROGRAM):
+        subprocess.run(["rt", "run"], cwd=CRATE, stdout=subprocess.DEVNULL, stderr=subprocess.DEVNULL, check=False)
+    if not os.path.exists(PROGRAM):
+        sys.exit(f"{PROGRAM} isn't there, and `rt run` in {CRATE} didn't build it")
+
+
+def run(words, folder, out=subprocess.PIPE):
+    return subprocess.run([PROGRAM, *words], cwd=folder, stdin=subprocess.DEVNULL, stdout=out, stderr=subprocess.PIPE, timeout=SECONDS, check=False)
+
+
+def rows(folder):
+    for words, status, text, line in ROWS:
+        ended = run(words, folder)
+        check(words, "the status", ended.returncode, status)
+        check(words, "standard output", ended.stdout, text)
+        check(words, "standard error", ended.stderr, line)
+    with open(os.path.join(folder, "out"), "rb") as image:
+        check("asm", "the image", image.read(), FILES["image"])
+    check("asm", "the image of a refused text is there", os.path.exists(os.path.join(folder, "refused image")), False)
+
+
+def full(folder):
+    """Output to a full device is a fault of standard output: nothing swallows it."""
+    for words in FULL:
+        with open("/dev/full", "wb") as device:
+            ended = run(words, folder, device)
+        check(words, "the status on a full device", ended.returncode, 5)
+        check(words, "standard error on a full device", ended.stderr, b"cosim: outside: out 1\n")
+
+
+def help_text(folder):
+    ended = run(["help"], folder)
+    check("help", "the status", ended.returncode, 0)
+    lines = ended.stdout.decode().splitlines()
+    check("help", "the number of lines", len(lines), 18)
+    check("help", "the first line", lines[0], "direct CONFIG")
+    check("help", "the last line", lines[-1], "resume CONFIG FILE")
+
+
+def main():
+    built()
+    with tempfile.TemporaryDirectory() as folder:
+        for name, content in FILES.items():
+            with open(os.path.join(folder, name), "wb") as file:
+                file.write(content)
+        rows(folder)
+        full(folder)
+        help_text(folder)
+    for failure in failures:
+        print(failure)
+    print(f"file_commands: {len(failures)} mismatches")
+    return 1 if failures else 0
+
+
+if __name__ == "__main__":
+    sys.exit(main())
