@@ -77,6 +77,7 @@ impl ScriptMaster {
 }
 
 impl Master for ScriptMaster {
+    ghost use Rattle.std.specs.Prelude.{◌≡◌, None, IfOk, IsOk, OnErr};
     ghost use Rattle.cos_script.specs.Masters.{script_model};
     ghost use Rattle.cos_script.specs.MasterLaws.{script_lawful};
 
@@ -84,7 +85,14 @@ impl Master for ScriptMaster {
 
     ghost lawful = { script_lawful };
 
-    fn issue(&mut self) -> Result<Option<Bus>, NoMemory> {
+    /// Always answers Ok.
+    fn issue(&mut self) -> Result<Option<Bus>, NoMemory>
+        requires runs { script_model.stopped self.old ≡ None }
+        requires free { script_model.issued self.old ≡ None }
+        ensures ok { IfOk result (λ b. script_model.issue self.old ≡ (self.new, b)) }
+        ensures err { OnErr result (self.new ≡ self.old) }
+        ensures always { IsOk result }
+    {
         self.issued = None;
         if self.wait > 0 {
             self.wait -= 1;
