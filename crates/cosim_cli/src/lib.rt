@@ -3,9 +3,11 @@
 
 mod device;
 mod help;
+mod laws;
 mod top;
 mod words;
 
+pub use laws::one_command;
 pub use top::{cosim, misspelled};
 
 #[cfg(test)]
