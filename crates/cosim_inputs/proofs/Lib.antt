@@ -1,0 +1,5 @@
+pub mod Limiting
+pub mod Reading
+pub mod Judged
+pub mod Mapping
+pub mod Scripted

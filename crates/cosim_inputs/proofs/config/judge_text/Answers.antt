@@ -1,0 +1,15 @@
+use Rattle.std.specs.Prelude.{IfOk, IfErr}
+use Rattle.std.proofs.Common.{◌≡◌, ◌⊎◌, Result, Ok, Err}
+use Rattle.cos_config.specs.declared.config.Config.{Config}
+use Rattle.cos_config.specs.declared.fault.ConfigFault.{ConfigFault}
+use Rattle.cosim_inputs.proofs.Judged.{judges, judged-within, gives-ok, gives-err}
+use Rattle.cosim_inputs.proofs.config.judge_text.Goals as goal
+
+pub returns-clause-ok : goal.returns-clause-ok
+returns-clause-ok c = gives-ok _ _ (judges c.args.sockets c.args.bytes.now c.judge.result c.judge.ensures.toml c.judge.ensures.ok c.judge.ensures.other)
+
+pub returns-clause-err : goal.returns-clause-err
+returns-clause-err c = gives-err _ _ (judges c.args.sockets c.args.bytes.now c.judge.result c.judge.ensures.toml c.judge.ensures.ok c.judge.ensures.other)
+
+pub returns-clause-limits : goal.returns-clause-limits
+returns-clause-limits c = judged-within c.args.sockets c.args.bytes.now c.judge.result c.judge.ensures.toml c.judge.ensures.ok

@@ -1,0 +1,48 @@
+// The configuration.
+ghost use Rattle.std.specs.Prelude.{◌≡◌, ◌⊎◌, Ok, Err, IfOk, IfErr};
+ghost use Rattle.cosim_status.specs.Outcomes.{seen};
+ghost use Rattle.cosim_status.specs.Steps.{IsLacking};
+ghost use Rattle.cosim_inputs.specs.Limits.{IsWithinLimits};
+ghost use Rattle.cosim_inputs.specs.Judging.{judged};
+ghost use Rattle.cosim_inputs.specs.Configs.{IsConfigRead, IsConfigUnread};
+
+use cos_base::Files;
+use cos_config::{Config, ConfigFault, Sockets, judge};
+use cosim_status::{Status, read_file};
+use std::alloc::Global;
+
+/// Judges a text, and how the command ends where it is refused.
+fn judge_text(alloc: Global, bytes: &[u8], sockets: Sockets) -> Result<Config, ConfigFault>
+    ensures ok { IfOk result (λ c. judged sockets bytes.now ≡ Ok c) }
+    ensures err { IfErr result (λ f. (f ≡ ConfigFault.NoMemory) ⊎ (judged sockets bytes.now ≡ Err f)) }
+    ensures limits { IfOk result IsWithinLimits }
+{
+    judge(alloc, bytes, sockets)
+}
+
+/// Reads a configuration, and judges it. What it answers in its place is how the command ends.
+pub fn read_config<F: Files>(
+    alloc: Global,
+    files: &mut F,
+    name: &str,
+    sockets: Sockets,
+) -> Result<Config, Status>
+    // It is what the file's bytes are judged as.
+    ensures ok { IfOk result (IsConfigRead sockets (seen F.count F.told files.old files.new) name.now) }
+    // Its settings are within the limits.
+    ensures limits { IfOk result IsWithinLimits }
+    // The first rule that it breaks, the files blamed, or no memory.
+    ensures err { IfErr result (IsConfigUnread sockets (seen F.count F.told files.old files.new) name.now) }
+    // Sound files are blamed only where they lack the name.
+    ensures is_sound { F.sound files.old → F.sound files.new × IfErr result (IsLacking (F.told files.old) name.now) }
+{
+    let bytes = match read_file(files, name) {
+        Ok(bytes) => bytes,
+        Err(status) => return Err(status),
+    };
+    match judge_text(alloc, bytes.as_slice(), sockets) {
+        Ok(config) => Ok(config),
+        Err(ConfigFault::NoMemory) => Err(Status::NoMemory),
+        Err(fault) => Err(Status::Config(fault)),
+    }
+}

@@ -1,0 +1,13 @@
+//! What the commands read that run a machine: a configuration, and the files that it names.
+//!
+//! [`read_config`] reads a configuration and judges it; [`read_machine`] makes its master and its devices at reset from the files
+//! that it names, each read and then judged. A command's promise speaks of what these files hold, by the definitions of `specs/`.
+#![tactic(auto)]
+
+mod config;
+mod devices;
+mod machine;
+mod master;
+
+pub use config::read_config;
+pub use machine::{Machine, read_machine};
