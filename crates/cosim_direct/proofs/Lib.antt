@@ -1,0 +1,3 @@
+pub mod Listed
+pub mod Printing
+pub mod Coming

@@ -1,0 +1,28 @@
+use Rattle.std.proofs.Common.{◌≡◌, None, Some, refl, arith}
+use Rattle.cosim_status.specs.Outcomes.{seen}
+use Rattle.cosim_status.proofs.Commands.{told-stand}
+use Rattle.cos_config.specs.declared.config.Config.{Config as Settings}
+use Rattle.cosim_inputs.specs.Fresh.{master_of, devices_of}
+use Rattle.cosim_inputs.specs.Inputs.{trouble, machine_files}
+use Rattle.cosim_inputs.proofs.Reading.{stands-both, told-first}
+use Rattle.cosim_direct.proofs.Coming.{comes-printed, config-not-run, config-lacks, machine-not-run, machine-lacks}
+use Rattle.cosim_direct.proofs.command.finish.Goals as goal
+
+pub returns-in-Err-clause-err : goal.returns-in-Err-clause-err
+returns-in-Err-clause-err g c = config-not-run _ _ _ c.in-Err.ensures.err
+
+pub returns-in-Err-clause-is_sound : goal.returns-in-Err-clause-is_sound
+returns-in-Err-clause-is_sound g c = λ is. config-lacks _ _ _ (c.in-Err.ensures.is_sound is).1
+
+pub returns-in-Err-read_machine-clause-err : goal.returns-in-Err-read_machine-clause-err
+returns-in-Err-read_machine-clause-err g c =
+    let f = seen g.F.Files.count g.F.Files.told c.args.files.now c.read_config.new.files in
+    let h = seen g.F.Files.count g.F.Files.told c.read_config.new.files c.read_machine.new.files in
+    machine-not-run f h c.args.name.now c.in-Ok.config _ c.in-Ok.ensures.ok.stands c.in-Ok.ensures.ok.judged refl refl c.in-Err-read_machine.ensures.err
+
+pub returns-in-Err-read_machine-clause-is_sound : goal.returns-in-Err-read_machine-clause-is_sound
+returns-in-Err-read_machine-clause-is_sound g c = λ is.
+    let f = seen g.F.Files.count g.F.Files.told c.args.files.now c.read_config.new.files in
+    let h = seen g.F.Files.count g.F.Files.told c.read_config.new.files c.read_machine.new.files in
+    machine-lacks f h c.args.name.now c.in-Ok.config _ (g.met.F.Files.sound_tells c.args.files.now is) c.in-Ok.ensures.ok.stands c.in-Ok.ensures.ok.judged refl
+    (c.in-Err-read_machine.ensures.is_sound (c.in-Ok.ensures.is_sound is).0).1

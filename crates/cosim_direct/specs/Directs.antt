@@ -1,0 +1,45 @@
+-- What the command `direct` comes to, by its configuration and the files that this names.
+use Rattle.std.specs.Prelude.{◌≡◌, ℕ, List, [], Result, Ok, Err}
+use Rattle.std.specs.declared.option.Option.{Option}
+use Rattle.std.specs.declared.option.Option.TheVariants.{Some, None}
+use Rattle.cos_base.specs.Stores.{Store}
+use Rattle.cos_config.specs.declared.config.Config.{Config as Settings}
+use Rattle.cos_config.specs.declared.config.Sockets.TheVariants.{Unneeded}
+use Rattle.cos_config.specs.declared.fault.ConfigFault.{ConfigFault}
+use Rattle.cosim_model.specs.declared.values.Plan.{Plan}
+use Rattle.cosim_model.specs.Direct.{Direct, direct}
+use Rattle.cos_parts.specs.declared.any_master.AnyMaster.{AnyMaster}
+use Rattle.cos_parts.specs.declared.any_device.AnyDevice.{AnyDevice}
+use Rattle.cos_parts.specs.AnyMasters as masters
+use Rattle.cos_parts.specs.AnyDevices as devices
+use Rattle.cosim_status.specs.declared.status.Status.TheVariants.{Config}
+use Rattle.cosim_status.specs.Outcomes.{Outcome, Lacks, Refuses, Prints}
+use Rattle.cosim_inputs.specs.Fresh.{master_of, devices_of}
+use Rattle.cosim_inputs.specs.Inputs.{trouble, machine_files}
+use Rattle.cosim_inputs.specs.Judging.{judged}
+use Rattle.cosim_direct.specs.Texts.{run_lines}
+
+abbrev pub plan_of : Settings → Plan
+plan_of c = record { quantum = c.quantum; units = c.units }
+
+-- the direct machine of the master and the devices at reset, with what the files hold
+abbrev pub machine_of : Store → Settings → Direct AnyMaster AnyDevice
+machine_of m c = direct masters.any_model devices.any_model (plan_of c) (master_of m c) (devices_of m c.ports)
+
+abbrev pub or_printed : Option Outcome → List ℕ → Outcome
+or_printed (Some stands) text = stands
+or_printed None text = Prints text
+
+-- A configuration's files are read, and the text of the run is printed; or the configuration is refused.
+abbrev pub judged_to : Store → Result Settings ConfigFault → Outcome
+judged_to m (Ok c) = or_printed (trouble m (machine_files c)) (run_lines (machine_of m c) c.ports)
+judged_to m (Err f) = Refuses (Config f) []
+
+abbrev pub found_to : Store → List ℕ → Option (List ℕ) → Outcome
+found_to m name None = Lacks name
+found_to m name (Some bytes) = judged_to m (judged Unneeded bytes)
+
+-- Over files that tell nothing it may come to anything.
+abbrev pub DirectComes : Option Store → List ℕ → Outcome → Type 0
+DirectComes None name o = Unit {0}
+DirectComes (Some m) name o = o ≡ found_to m name (m name)

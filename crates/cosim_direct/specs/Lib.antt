@@ -1,0 +1,3 @@
+pub mod Directs
+pub mod Steps
+pub mod Texts
