@@ -1,0 +1,51 @@
+#!/bin/sh
+# Units per second of `direct`, beside a machine in plain Rust that prints the same text: `bench/direct/run.sh [UNITS]`.
+# Two programs: the echo program with its timer, UART and DMA, and a loop of one instruction for so many units (200,000,000 where
+# none are named). It takes the best of three runs of each, by processor time, compares what both print, and prints a line for each
+# program with the ratio (1.0 is as fast as plain Rust, above is faster).
+# COSIM is the program; without it, the one that is built in crates/cosim.
+set -eu
+units=${1:-200000000}
+here=$(cd "$(dirname "$0")" && pwd)
+program=${COSIM:-$here/../../crates/cosim/out/cosim}
+work=$(mktemp -d)
+trap 'rm -rf "$work"' EXIT
+rustc -O --edition 2021 -o "$work/machine" "$here/machine.rs"
+cp "$here/../../examples/echo"/* "$work"
+cd "$work"
+"$program" asm echo.s echo.bin
+printf 'loop:   jal   x0, loop\n' >loop.s
+"$program" asm loop.s loop.bin
+cat >loop.toml <<CONFIG
+[machine]
+kind = "rv32i"
+image = "loop.bin"
+ram = 4096
+quantum = 1000000
+units = $units
+CONFIG
+
+# The least processor time, in seconds, of three runs.
+best() {
+    least=
+    for _ in 1 2 3; do
+        taken=$( { command time -f %U "$@" >"$work/out"; } 2>&1 | tail -n 1)
+        if [ -z "$least" ] || [ "$(echo "$taken < $least" | bc)" = 1 ]; then least=$taken; fi
+    done
+    echo "$least"
+}
+
+# The program, its configuration, its units, and the words of the plain machine.
+beside() {
+    name=$1
+    count=$2
+    shift 2
+    ours=$(best "$program" direct "$name.toml")
+    cp "$work/out" "$work/ours"
+    theirs=$(best "$work/machine" "$@")
+    cmp -s "$work/ours" "$work/out" || { echo "$name: the two print different texts"; exit 1; }
+    echo "$name: $ours s here, $theirs s in plain Rust, $count units, $(echo "$count / ($ours * 1000000)" | bc) million units a second, ratio $(echo "scale=2; $theirs / $ours" | bc)"
+}
+
+beside echo 2000000 echo.bin 262144 200 2000000 timer uart:input.bin:1000 dma
+beside loop "$units" loop.bin 4096 1000000 "$units"
