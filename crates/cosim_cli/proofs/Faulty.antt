@@ -1,9 +1,9 @@
 -- The forms are the commands.
-use Rattle.std.proofs.Common.{ℕ, ◌≡◌, ◌+◌, ◌≤◌, ◌⊎◌, List, [], ◌∷◌, ◌++◌, length, take, codes, refl, ap, sym, ◌∙◌, subst, inl, inr}
+use Rattle.std.proofs.Common.{ℕ, ◌≡◌, ◌+◌, List, [], ◌∷◌, ◌++◌, length, take, codes, refl, ap, sym, ◌∙◌, subst, inl, inr}
 use Rattle.std.proofs.Math.Seq.{take-length}
 use Rattle.std.proofs.lemmas.List.{append-nil}
 use Rattle.cosim_cli.specs.Words.{Command, Device, Show, Pack, Asm, Dis, Help, words_of, IsCommand, Begins, IsFaulty}
-use Rattle.cosim_cli.specs.Forms.{Word, Exact, Any, Fits, FitsSome, BeginsSome, FaultyIn, forms}
+use Rattle.cosim_cli.specs.Forms.{Exact, Any, Fits, FitsSome, BeginsSome, FaultyIn, forms}
 
 -- words of a form with one word, and with three of which one may be any
 pub fits-one : (a : List ℕ) (ws : List (List ℕ)) → Fits (Exact a ∷ []) ws → ws ≡ a ∷ []

@@ -1,5 +1,5 @@
 -- How the help text that is put keeps the promise of `help`.
-use Rattle.std.proofs.Common.{ℕ, ◌≡◌, List, [], refl, sym, ◌∙◌, subst}
+use Rattle.std.proofs.Common.{[], refl, sym, ◌∙◌}
 use Rattle.cosim_status.specs.declared.status.Status.{Status}
 use Rattle.cosim_status.specs.Outcomes.{IsUntouched}
 use Rattle.cosim_status.specs.Steps.{IsPrinted, IsRoomFor}

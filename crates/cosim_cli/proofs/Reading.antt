@@ -1,9 +1,8 @@
 -- Reading words from the front, form by form.
-use Rattle.std.proofs.Common.{ℕ, ◌≡◌, ◌+◌, ◌≤◌, ◌⊎◌, List, [], ◌∷◌, ◌++◌, Bool, true, false, cond, length, take, codes, refl, ap, sym, ◌∙◌, subst, arith, inl, inr, zero, suc, add-one}
-use Rattle.std.proofs.Math.Seq.{take-length}
+use Rattle.std.proofs.Common.{ℕ, ◌≡◌, ◌+◌, ◌⊎◌, List, [], ◌∷◌, ◌++◌, Bool, true, false, cond, take, refl, ap, sym, ◌∙◌, subst, arith, inl, inr, add-one}
 use Rattle.std.specs.Str.{bytes_eq}
 use Rattle.std.proofs.lemmas.Slice.Eq.{bytes_eq-Decides}
-use Rattle.cosim_cli.specs.Forms.{Word, Exact, Any, IsWord, Fits, FitsSome, BeginsSome, FaultyIn}
+use Rattle.cosim_cli.specs.Forms.{Word, Exact, Any, Fits, FitsSome, BeginsSome, FaultyIn}
 
 -- what of these forms stands behind a first word
 abbrev pub behind : List ℕ → List (List Word) → List (List Word)

@@ -1,4 +1,4 @@
-use Rattle.std.proofs.Common.{◌≡◌, [], ◌∷◌, codes, refl}
+use Rattle.std.proofs.Common.{[], ◌∷◌, codes, refl}
 use Rattle.cosim_cli.specs.Forms.{Exact, Any, forms}
 use Rattle.cosim_cli.proofs.Reading.{faulty-end, faulty-here, faulty-word, behind-none}
 use Rattle.cosim_cli.proofs.Faulty.{faulty-of, begins-forms}

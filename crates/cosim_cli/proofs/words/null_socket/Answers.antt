@@ -1,4 +1,4 @@
-use Rattle.std.proofs.Common.{◌≡◌, [], ◌∷◌, codes, refl, inl}
+use Rattle.std.proofs.Common.{[], ◌∷◌, codes, refl, inl}
 use Rattle.cosim_cli.specs.Forms.{Exact, Any}
 use Rattle.cosim_cli.proofs.Reading.{faulty-end}
 use Rattle.cosim_cli.proofs.words.null_socket.Goals as goal

@@ -1,6 +1,6 @@
-use Rattle.std.proofs.Common.{◌≡◌, [], ◌∷◌, codes, refl, inl}
-use Rattle.cosim_cli.specs.Forms.{Exact, Any, BeginsSome}
-use Rattle.cosim_cli.proofs.Reading.{faulty-end, faulty-here, faulty-word, behind-other}
+use Rattle.std.proofs.Common.{[], ◌∷◌, codes, refl, inl}
+use Rattle.cosim_cli.specs.Forms.{Exact, BeginsSome}
+use Rattle.cosim_cli.proofs.Reading.{faulty-end, faulty-here, behind-other}
 use Rattle.cosim_cli.proofs.words.null_word.Goals as goal
 
 begins : BeginsSome ((Exact (codes "null") ∷ []) ∷ []) []
