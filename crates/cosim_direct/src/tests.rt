@@ -557,13 +557,11 @@ fn octets_of(alloc: Global, len: usize) -> Result<Octets, NoMemory> {
 }
 
 #[test]
-fn an_object_that_fails_is_blamed_and_nothing_is_printed_of_a_run_that_was_not(
-    rt: HostRuntime,
-) -> Result<(), Fail> {
+fn files_that_fail_are_blamed_and_nothing_is_printed(rt: HostRuntime) -> Result<(), Fail> {
     let files = [("config", ONE_BYTE.as_bytes()), ("image", b"\0".as_slice())];
-    for (failing_read, absent) in [(Some(0), false), (Some(1), false), (None, true)] {
-        let named = if absent { &files[..1] } else { &files[..] };
-        let mut store = files_of(rt.alloc(), named, failing_read)?;
+    for (call, count) in [(Some(0), 2), (Some(1), 2), (None, 1)] {
+        let (named, _) = files.split_at(count);
+        let mut store = files_of(rt.alloc(), named, call)?;
         let mut out = MemSink::make(rt.alloc(), 4_096, Numbers::make(rt.alloc()))?;
         let status = direct(rt.alloc(), "config", &mut store, &mut out);
         assert!(rt;
