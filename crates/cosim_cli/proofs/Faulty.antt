@@ -2,7 +2,7 @@
 use Rattle.std.proofs.Common.{ℕ, ◌≡◌, ◌+◌, List, [], ◌∷◌, ◌++◌, length, take, codes, refl, ap, sym, ◌∙◌, subst, inl, inr}
 use Rattle.std.proofs.Math.Seq.{take-length}
 use Rattle.std.proofs.lemmas.List.{append-nil}
-use Rattle.cosim_cli.specs.Words.{Command, Device, Show, Pack, Asm, Dis, Help, words_of, IsCommand, Begins, IsFaulty}
+use Rattle.cosim_cli.specs.Words.{Command, Device, Show, Pack, Asm, Dis, Direct, Help, words_of, IsCommand, Begins, IsFaulty}
 use Rattle.cosim_cli.specs.Forms.{Exact, Any, Fits, FitsSome, BeginsSome, FaultyIn, forms}
 
 -- words of a form with one word, and with three of which one may be any
@@ -38,8 +38,9 @@ forms-commands ws (inr (inl fits)) = let by = fits-word (codes "show") ws fits i
 forms-commands ws (inr (inr (inl fits))) = let by = fits-word (codes "pack") ws fits in (Pack by.0, by.1)
 forms-commands ws (inr (inr (inr (inl fits)))) = let by = fits-words (codes "asm") ws fits in (Asm by.0 by.1, by.2)
 forms-commands ws (inr (inr (inr (inr (inl fits))))) = let by = fits-word (codes "dis") ws fits in (Dis by.0, by.1)
-forms-commands ws (inr (inr (inr (inr (inr (inl fits)))))) = (Help, fits-one (codes "help") ws fits)
-forms-commands ws (inr (inr (inr (inr (inr (inr fits)))))) = absurd fits
+forms-commands ws (inr (inr (inr (inr (inr (inl fits)))))) = let by = fits-word (codes "direct") ws fits in (Direct by.0, by.1)
+forms-commands ws (inr (inr (inr (inr (inr (inr (inl fits))))))) = (Help, fits-one (codes "help") ws fits)
+forms-commands ws (inr (inr (inr (inr (inr (inr (inr fits))))))) = absurd fits
 
 pub command-fits : (c : Command) → FitsSome forms (words_of c)
 command-fits (Device socket) = inl (refl, (tt, (refl, tt)))
@@ -47,7 +48,8 @@ command-fits (Show file) = inr (inl (refl, (tt, tt)))
 command-fits (Pack file) = inr (inr (inl (refl, (tt, tt))))
 command-fits (Asm file out) = inr (inr (inr (inl (refl, (tt, (tt, tt))))))
 command-fits (Dis file) = inr (inr (inr (inr (inl (refl, (tt, tt))))))
-command-fits Help = inr (inr (inr (inr (inr (inl (refl, tt))))))
+command-fits (Direct config) = inr (inr (inr (inr (inr (inl (refl, (tt, tt)))))))
+command-fits Help = inr (inr (inr (inr (inr (inr (inl (refl, tt)))))))
 
 pub commands-forms : (ws : List (List ℕ)) → IsCommand ws → FitsSome forms ws
 commands-forms ws (c, is) = subst (FitsSome forms) (sym is) (command-fits c)

@@ -39,5 +39,6 @@ forms =
     ∷ (Exact (codes "pack") ∷ Any ∷ [])
     ∷ (Exact (codes "asm") ∷ Any ∷ Any ∷ [])
     ∷ (Exact (codes "dis") ∷ Any ∷ [])
+    ∷ (Exact (codes "direct") ∷ Any ∷ [])
     ∷ (Exact (codes "help") ∷ [])
     ∷ []

@@ -8,6 +8,7 @@ use Rattle.cosim_status.specs.declared.status.Status.{Status}
 use Rattle.cosim_status.specs.declared.status.Status.TheVariants as status
 use Rattle.cosim_assembly.specs.Assemblies.{AsmComes}
 use Rattle.cosim_assembly.specs.Listings.{DisComes}
+use Rattle.cosim_direct.specs.Directs.{DirectComes}
 use Rattle.cosim_packets.specs.Packed.{Packed}
 use Rattle.cosim_packets.specs.Shown.{Shown}
 use Rattle.cosim_status.specs.Outcomes.{Outcome, OfFile, Seen, IsUntouched, Blames, Ends, MeetsOne, MeetsEach}
@@ -15,7 +16,7 @@ use Rattle.cosim_cli.specs.Causes.{NetBlames, BlamesSoundly, Lacks}
 use Rattle.cosim_cli.specs.Help.{Helps}
 use Rattle.cosim_cli.specs.Names.{DeviceNames}
 use Rattle.cosim_cli.specs.Talks.{TopTalks, Completes}
-use Rattle.cosim_cli.specs.Words.{Command, Device, Show, Pack, Asm, Dis, Help, words_of}
+use Rattle.cosim_cli.specs.Words.{Command, Device, Show, Pack, Asm, Dis, Direct, Help, words_of}
 
 -- what is around a call: its objects before and after it, whether they are sound before it, the room of `out`, and what the links of the network tell and count
 pub record Around (L : Type 0) : Type 1 where
@@ -61,6 +62,7 @@ Keeps (Show file) a s = Performs (OfFile file Shown a.files.old) [] a s
 Keeps (Pack file) a s = Performs (OfFile file Packed a.files.old) [] a s
 Keeps (Asm file out) a s = Performs (AsmComes file out a.files.old) (out ∷ []) a s
 Keeps (Dis file) a s = Performs (DisComes file a.files.old) [] a s
+Keeps (Direct config) a s = Performs (DirectComes a.files.old config) [] a s
 Keeps Help a s = Performs Helps [] a s
 
 -- the words are those of a command, and it keeps its promise

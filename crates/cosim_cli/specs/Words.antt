@@ -12,6 +12,7 @@ pub data Command : Type 0 where
   Pack : List ℕ → Command
   Asm : List ℕ → List ℕ → Command
   Dis : List ℕ → Command
+  Direct : List ℕ → Command
   Help : Command
 
 abbrev pub words_of : Command → List (List ℕ)
@@ -20,6 +21,7 @@ words_of (Show file) = codes "show" ∷ file ∷ []
 words_of (Pack file) = codes "pack" ∷ file ∷ []
 words_of (Asm file out) = codes "asm" ∷ file ∷ out ∷ []
 words_of (Dis file) = codes "dis" ∷ file ∷ []
+words_of (Direct config) = codes "direct" ∷ config ∷ []
 words_of Help = codes "help" ∷ []
 
 -- the command that was read
@@ -29,6 +31,7 @@ asked (read.Show file) = Show file.now
 asked (read.Pack file) = Pack file.now
 asked (read.Asm file out) = Asm file.now out.now
 asked (read.Dis file) = Dis file.now
+asked (read.Direct config) = Direct config.now
 asked read.Help = Help
 
 abbrev pub IsCommand : List (List ℕ) → Type 0

@@ -10,6 +10,7 @@ use crate::help::help;
 use crate::words::{Command, command_of, stop_of};
 use cos_base::{Files, Network, Sink};
 use cosim_assembly::{asm, dis};
+use cosim_direct::direct;
 use cosim_packets::{pack, show};
 use cosim_status::{Status, tell_status};
 use std::alloc::Global;
@@ -40,6 +41,7 @@ fn perform<F: Files, K: Sink, N: Network>(
         Command::Pack { file } => pack(alloc, file, files, out),
         Command::Asm { file, out: target } => asm(alloc, file, target, files),
         Command::Dis { file } => dis(alloc, file, files, out),
+        Command::Direct { config } => direct(alloc, config, files, out),
         Command::Help => help(out),
     }
 }
@@ -80,6 +82,7 @@ fn work<F: Files, K: Sink, N: Network>(
 /// | `pack FILE` | prints the canonical bytes of a text of packets |
 /// | `asm FILE OUT` | writes the image of an assembly to OUT, and prints nothing |
 /// | `dis FILE` | prints the words of an image, a line each |
+/// | `direct CONFIG` | runs the machine of a configuration without packets, and prints a line for each call and the closing lines |
 /// | `help` | prints a line for each command, those that are still to come among them |
 pub fn cosim<F: Files, K: Sink, E: Sink, N: Network>(
     alloc: Global,

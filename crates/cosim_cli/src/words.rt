@@ -16,6 +16,8 @@ pub enum Command<'a> {
     Asm { file: &'a str, out: &'a str },
     /// Print the words of an image.
     Dis { file: &'a str },
+    /// Run the machine of a configuration without packets.
+    Direct { config: &'a str },
     /// Print the help text.
     Help,
 }
@@ -156,6 +158,12 @@ pub fn command_of(words: &[String]) -> Result<Command<'_>, u64>
     if is_word(verb, "dis") {
         return match one_word(after) {
             Ok(file) => Ok(Command::Dis { file }),
+            Err(index) => Err(index + 1),
+        };
+    }
+    if is_word(verb, "direct") {
+        return match one_word(after) {
+            Ok(config) => Ok(Command::Direct { config }),
             Err(index) => Err(index + 1),
         };
     }

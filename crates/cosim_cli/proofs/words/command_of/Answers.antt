@@ -31,6 +31,16 @@ pub returns-in-Err-one_word-3-clause-err : goal.returns-in-Err-one_word-3-clause
 returns-in-Err-one_word-3-clause-err c =
     faulty-of _ _ (faulty-word forms ((Any ∷ []) ∷ []) (codes "dis") _ _ _ _ c.in-Some.ensures (c.is_word-5.ensures.yes c.if-is_word-5.true) refl c.in-Err-one_word-3.ensures.err)
 
+-- direct
+pub returns-in-Err-one_word-4-clause-err : goal.returns-in-Err-one_word-4-clause-err
+returns-in-Err-one_word-4-clause-err c =
+    faulty-of _ _ (faulty-word forms ((Any ∷ []) ∷ []) (codes "direct") _ _ _ _ c.in-Some.ensures (c.is_word-6.ensures.yes c.if-is_word-6.true) refl c.in-Err-one_word-4.ensures.err)
+
+-- help
+pub returns-in-Err-no_word-clause-err : goal.returns-in-Err-no_word-clause-err
+returns-in-Err-no_word-clause-err c =
+    faulty-of _ _ (faulty-word forms ([] ∷ []) (codes "help") _ _ _ _ c.in-Some.ensures (c.is_word-7.ensures.yes c.if-is_word-7.true) refl c.in-Err-no_word.ensures.err)
+
 pub returns-clause-err : goal.returns-clause-err
 returns-clause-err c =
     faulty-of _ _ (faulty-here forms _ _ _ c.in-Some.ensures
@@ -44,7 +54,7 @@ returns-clause-err c =
             c.is_word-4.ensures.no c.if-is_word-4.false,
             (
               c.is_word-5.ensures.no c.if-is_word-5.false,
-              (c.is_word-6.ensures.no c.if-is_word-6.false, tt),
+              (c.is_word-6.ensures.no c.if-is_word-6.false, (c.is_word-7.ensures.no c.if-is_word-7.false, tt)),
             ),
           ),
         ),
