@@ -1,5 +1,4 @@
 // Why an image can't be loaded.
-use cos_base::NoMemory;
 
 /// Why an image can't be loaded into RAM, which is then as it was.
 #[derive(Clone, Copy, PartialEq, Eq, Debug)]
@@ -9,11 +8,4 @@ pub enum ImageFault {
     /// The image has more bytes than RAM.
     TooLarge { size: u64, got: u64 },
     NoMemory,
-}
-
-impl From<NoMemory> for ImageFault {
-    fn from(fault: NoMemory) -> ImageFault {
-        let _fault = fault;
-        ImageFault::NoMemory
-    }
 }
