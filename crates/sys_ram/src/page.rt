@@ -26,8 +26,8 @@ impl Model for Page {
 }
 
 impl Page {
-    #[tactic(auto, unfolding(crate::specs::Pages::zero_page))]
     /// A page of zeros.
+    #[tactic(auto, unfolding(crate::specs::Pages::zero_page))]
     pub fn zeros(alloc: Global) -> Result<Page, NoMemory>
         ensures { IfOk result (λ p. p ≡ zero_page) }
     {
@@ -45,8 +45,8 @@ impl Page {
         &*self.bytes
     }
 
-    #[inline(always)]
     /// The bytes from a place on.
+    #[inline(always)]
     pub fn copy_out(&self, at: usize, out: &mut [u8])
         requires { at + length out.old ≤ 4096 }
         ensures { out.new ≡ part_of self.now at (length out.old) }
@@ -54,8 +54,8 @@ impl Page {
         out.copy_from_slice(&self.bytes[at..at + out.len()]);
     }
 
-    #[inline(always)]
     /// Replaces the bytes from a place on by as many others.
+    #[inline(always)]
     pub fn overwrite(&mut self, at: usize, bytes: &[u8])
         requires { at + length bytes.now ≤ 4096 }
         ensures bytes { self.new ≡ overwritten self.old at bytes.now }

@@ -8,9 +8,9 @@ use crate::page::Page;
 use cos_base::NoMemory;
 use std::alloc::Global;
 
+/// The bytes of a page from a place on.
 #[tactic(auto, using(crate::proofs::Paging::zero_part))]
 #[inline(always)]
-/// The bytes of a page from a place on.
 fn copy_page(page: &Option<Page>, at: usize, out: &mut [u8])
     requires { at + length out.old ≤ 4096 }
     ensures { out.new ≡ part_of (page_bytes page.now) at (length out.old) }

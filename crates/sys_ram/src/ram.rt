@@ -120,8 +120,8 @@ impl Ram {
         Ok(())
     }
 
-    #[tactic(auto, unfolding(crate::specs::Pages::zero_page))]
     /// SHA-256 of all its bytes.
+    #[tactic(auto, unfolding(crate::specs::Pages::zero_page))]
     pub fn digest(&self) -> [u8; 32]
         ensures { result ≡ sha256 self.now }
     {
