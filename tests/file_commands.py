@@ -24,6 +24,28 @@ SYNC_LINE = b"sync 7 0 0 1000\n"
 # a header of a command that is reserved
 BAD_HEADER = bytes.fromhex("00000007 ffffffff 00000000 00000000 00000000")
 
+MACHINE = """[machine]
+kind = "rv32i"
+image = "firmware"
+ram = 4096
+quantum = 100
+units = 1000
+"""
+UART = b"""[[port]]
+kind = "uart"
+base = 0x10000000
+size = 4096
+line = 1
+"""
+RUN = b"""@2 p0 write 0x0+4 = 0x41 code 0
+stop halted 0 at 5
+pc 80000014
+regs 10000000 00000041 00100000 %s
+lines 00000000
+ram c7eceb3c4f2890dd27340f3357ffa3d26ec0842a718a9ceb0dc424797e511d88
+out p0 41
+""" % b" ".join([b"00000000"] * 28)
+
 FILES = {
     "stream": HELLO + SYNC,
     "cut": HELLO + SYNC[:27],
@@ -36,6 +58,13 @@ FILES = {
     "no code": b"start: addi x1, x0, 5\nstart: ecall\n",
     "image": bytes.fromhex("93005000 6ff0dfff"),
     "five bytes": bytes(5),
+    # a firmware that stores a byte into a UART and stops, its machine, and configurations that are refused
+    "firmware": bytes.fromhex("b7000010 13011004 23a02000 b7011000 23a00100 6f000000"),
+    "machine": MACHINE.encode() + UART,
+    "no quantum": MACHINE.replace("quantum = 100", "quantum = 0").encode(),
+    "no image": MACHINE.replace("firmware", "absent").encode(),
+    "empty image": MACHINE.replace("firmware", "empty").encode(),
+    "no toml": b"[machine",
 }
 
 # words, status, standard output, standard error
@@ -59,6 +88,12 @@ ROWS = [
     (["dis", "empty"], 0, b"", b""),
     (["dis", "five bytes"], 3, b"", b"cosim: input: Words 5\n"),
     (["dis", "absent"], 5, b"", b"cosim: outside: files 1\n"),
+    (["direct", "machine"], 0, RUN, b""),
+    (["direct", "no quantum"], 2, b"", b"cosim: config: Range machine quantum 0\n"),
+    (["direct", "no toml"], 2, b"", b"cosim: config: Text\n"),
+    (["direct", "empty image"], 3, b"", b"cosim: input: ImageEmpty\n"),
+    (["direct", "no image"], 5, b"", b"cosim: outside: files 1\n"),
+    (["direct", "absent"], 5, b"", b"cosim: outside: files 1\n"),
     (["show"], 1, b"", b"cosim: usage at word 1\n"),
     (["asm", "code"], 1, b"", b"cosim: usage at word 2\n"),
     (["help", "dis"], 1, b"", b"cosim: usage at word 1\n"),
@@ -66,7 +101,7 @@ ROWS = [
 ]
 
 # words whose text goes to a full device
-FULL = [["show", "stream"], ["pack", "text"], ["dis", "image"], ["help"]]
+FULL = [["show", "stream"], ["pack", "text"], ["dis", "image"], ["direct", "machine"], ["help"]]
 
 failures = []
 

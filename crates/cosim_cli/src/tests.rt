@@ -367,3 +367,117 @@ fn a_call_that_fails_is_blamed(rt: HostRuntime) -> Result<(), Fail> {
     }
     Ok(())
 }
+
+const CONFIG: &[u8] = b"\
+[machine]
+kind = \"rv32i\"
+image = \"firmware\"
+ram = 4096
+quantum = 100
+units = 1000
+[[port]]
+kind = \"uart\"
+base = 0x10000000
+size = 4096
+line = 1
+";
+
+const NO_QUANTUM: &[u8] = b"\
+[machine]
+kind = \"rv32i\"
+image = \"firmware\"
+ram = 4096
+quantum = 0
+units = 1000
+";
+
+/// It stores a byte into the UART, and stops the machine.
+const FIRMWARE: [u8; 24] = [
+    0xb7, 0, 0, 0x10, 0x13, 1, 0x10, 4, 0x23, 0xa0, 0x20, 0, 0xb7, 1, 0x10, 0, 0x23, 0xa0, 1, 0,
+    0x6f, 0, 0, 0,
+];
+
+/// How `direct` ends over a configuration and its firmware, with the read and the put of these numbers failing: whether it has this
+/// number and this line, and its text begins so.
+fn runs(
+    alloc: Global,
+    config: &str,
+    reads: Numbers,
+    puts: Numbers,
+    code: u8,
+    text: &[u8],
+    line: &str,
+) -> Result<bool, NoMemory> {
+    let mut files = MemFiles::make(alloc, reads);
+    for (name, bytes) in [
+        ("config", CONFIG),
+        ("no quantum", NO_QUANTUM),
+        ("firmware", FIRMWARE.as_slice()),
+    ] {
+        let mut held = Octets::make(alloc);
+        held.push_all(bytes)?;
+        files.add(name, held)?;
+    }
+    let mut net = net_of(alloc, &[], 0, Numbers::make(alloc))?;
+    let mut out = MemSink::make(alloc, 1000, puts)?;
+    let mut err = MemSink::make(alloc, 100, Numbers::make(alloc))?;
+    let words = match list(alloc, &["direct", config]) {
+        Ok(words) => words,
+        Err(_) => return Err(NoMemory),
+    };
+    let status = cosim(alloc, &words, &mut files, &mut out, &mut err, &mut net);
+    Ok(status.code() == code && out.bytes().starts_with(text) && err.bytes() == line.as_bytes())
+}
+
+#[test]
+fn direct_runs_a_firmware_or_refuses_its_configuration(rt: HostRuntime) -> Result<(), Fail> {
+    let alloc = rt.alloc();
+    let none = || Numbers::make(alloc);
+    let text = b"@2 p0 write 0x0+4 = 0x41 code 0\nstop halted 0 at 5\npc 80000014\n".as_slice();
+    assert!(rt; runs(alloc, "config", none(), none(), 0, text, "")?);
+    assert!(rt;
+        runs(
+            alloc,
+            "no quantum",
+            none(),
+            none(),
+            2,
+            b"",
+            "cosim: config: Range machine quantum 0\n"
+        )?
+    );
+    assert!(rt;
+        runs(
+            alloc,
+            "absent",
+            none(),
+            none(),
+            5,
+            b"",
+            "cosim: outside: files 1\n"
+        )?
+    );
+    assert!(rt;
+        runs(
+            alloc,
+            "config",
+            numbers(alloc, 1, 0)?,
+            none(),
+            5,
+            b"",
+            "cosim: outside: files 1\n"
+        )?
+    );
+    assert!(rt;
+        runs(
+            alloc,
+            "config",
+            none(),
+            numbers(alloc, 1, 0)?,
+            5,
+            b"",
+            "cosim: outside: out 1\n"
+        )?
+    );
+    Ok(())
+}
