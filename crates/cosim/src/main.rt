@@ -48,14 +48,7 @@ fn main(rt: HostRuntime) -> ExitCode {
     let mut err = StdSink::make(rt.stderr());
     let mut net = UnixNet::make(rt.alloc(), &rt);
     let status = match read_words(&rt) {
-        Words::All(words) => cosim(
-            rt.alloc(),
-            &words,
-            &mut files,
-            &mut out,
-            &mut err,
-            &mut net,
-        ),
+        Words::All(words) => cosim(rt.alloc(), &words, &mut files, &mut out, &mut err, &mut net),
         Words::Misspelled(words) => misspelled(&words, &mut err),
         Words::NoMemory => {
             tell_status(&mut err, &Status::NoMemory);

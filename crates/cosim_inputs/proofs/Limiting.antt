@@ -184,7 +184,11 @@ machine-within m Rv ports kept =
     let quantum = number-there Machine m (codes "quantum") 1 1000000000 1 0 kept.1.1.1.0 in
     let units = number-there Machine m (codes "units") 0 4294967295 1 0 kept.1.1.1.1.0 in
     record {
-      ram = ram.steps; least = ram.least; most = ram.most; quantum = quantum.least; units = omega (arith, units.most);
+      ram = ram.steps;
+      least = ram.least;
+      most = ram.most;
+      quantum = quantum.least;
+      units = omega (arith, units.most);
       image = λ e. text-there Machine m (codes "image") kept.1.0;
       script = λ e. absurd (cc e);
     }
@@ -193,7 +197,11 @@ machine-within m Script ports kept =
     let quantum = number-there Machine m (codes "quantum") 1 1000000000 1 0 kept.1.1.1.1.0 in
     let units = number-there Machine m (codes "units") 0 4294967295 1 0 kept.1.1.1.1.1.0 in
     record {
-      ram = ram.steps; least = ram.least; most = ram.most; quantum = quantum.least; units = omega (arith, units.most);
+      ram = ram.steps;
+      least = ram.least;
+      most = ram.most;
+      quantum = quantum.least;
+      units = omega (arith, units.most);
       image = λ e. absurd (cc e);
       script = λ e. text-there Machine m (codes "script") kept.1.1.0;
     }

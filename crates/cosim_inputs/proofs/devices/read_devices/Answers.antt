@@ -29,12 +29,11 @@ returns-in-Err-clause-is_sound g c = λ is.
     let f = seen g.F.Files.count g.F.Files.told c.args.files.now c.ports.files in
     let h = seen g.F.Files.count g.F.Files.told c.ports.files c.read_device.new.files in
     let sound = c.in-Err.ensures.is_sound (c.ports.invariant.sound is) in
-    let here : AreLacking (g.F.Files.told c.ports.files) (port_files i x) c.in-Err.status = subst (λ p. AreLacking (g.F.Files.told c.ports.files) (port_files p x) c.in-Err.status) port sound.1 in
-    (
+    let here : AreLacking (g.F.Files.told c.ports.files) (port_files i x) c.in-Err.status = subst (λ p. AreLacking (g.F.Files.told c.ports.files) (port_files p x) c.in-Err.status) port sound.1 in (
       sound.0,
       subst (λ l. AreLacking (g.F.Files.told c.args.files.now) l c.in-Err.status)
-      (sym (ports_files-rest i c.args.ports.now x c.ports-test.true c.config-item.is))
-      (lacks-within f h (ports_files 0 (take i c.args.ports.now)) (port_files i x) (ports_files (i + 1) (drop (i + 1) c.args.ports.now)) c.in-Err.status (g.met.F.Files.sound_tells c.args.files.now is) c.ports.invariant.read refl here),
+          (sym (ports_files-rest i c.args.ports.now x c.ports-test.true c.config-item.is))
+          (lacks-within f h (ports_files 0 (take i c.args.ports.now)) (port_files i x) (ports_files (i + 1) (drop (i + 1) c.args.ports.now)) c.in-Err.status (g.met.F.Files.sound_tells c.args.files.now is) c.ports.invariant.read refl here),
     )
 
 pub ports-preserved : goal.ports-preserved
@@ -47,10 +46,10 @@ ports-preserved g c =
     let here : AreRead h (port_files i x) = subst (λ p. AreRead h (port_files p x)) port c.in-Ok.ensures.ok in
     record {
       read = subst (λ l. AreRead (seen g.F.Files.count g.F.Files.told c.args.files.now c.read_device.new.files) l)
-        (sym (ports_files-next i c.args.ports.now x c.ports-test.true c.config-item.is))
-        (read-both f h (ports_files 0 (take i c.args.ports.now)) (port_files i x) c.ports.invariant.read refl refl here);
+          (sym (ports_files-next i c.args.ports.now x c.ports-test.true c.config-item.is))
+          (read-both f h (ports_files 0 (take i c.args.ports.now)) (port_files i x) c.ports.invariant.read refl refl here);
       devices = devices-next (g.F.Files.told c.args.files.now) i c.args.ports.now x _ _ _ c.ports-test.true c.config-item.is c.in-Ok-push.ensures.items c.ports.invariant.devices
-        (g.F.Files.told c.ports.files) (joined-told f h c.ports.invariant.read.stands refl) c.in-Ok.ensures.device;
+          (g.F.Files.told c.ports.files) (joined-told f h c.ports.invariant.read.stands refl) c.in-Ok.ensures.device;
       fresh = grind (arith, common_steps, c.in-Ok-push.ensures.items, c.ports.invariant.fresh, c.in-Ok.ensures.fresh);
       count = omega (arith, c.in-Ok-push.ensures.len, c.ports.invariant.count);
       sound = λ is. (c.in-Ok.ensures.is_sound (c.ports.invariant.sound is)).0;

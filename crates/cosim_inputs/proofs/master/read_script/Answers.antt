@@ -35,8 +35,7 @@ pub returns-in-Err-Line-clause-err : goal.returns-in-Err-Line-clause-err
 returns-in-Err-Line-clause-err g c =
     let f = seen g.F.Files.count g.F.Files.told c.args.files.now c.read_file.new.files in
     let same : c.in-Ok-from_utf8.text.now ≡ c.in-Ok.bytes.bytes = c.in-Ok-from_utf8.ensures.cases.0 ∙ c.as_slice.ensures in
-    let utf8 : is_utf8 c.in-Ok.bytes.bytes ≡ true = is_utf8-from_IsUtf8 _ (subst IsUtf8 c.as_slice.ensures c.in-Ok-from_utf8.ensures.cases.1) in
-    (
+    let utf8 : is_utf8 c.in-Ok.bytes.bytes ≡ true = is_utf8-from_IsUtf8 _ (subst IsUtf8 c.as_slice.ensures c.in-Ok-from_utf8.ensures.cases.1) in (
       c.in-Ok.ensures.ok.stands,
       script-stands f _ c.args.name.now c.in-Ok.bytes.bytes c.args.ports true _ c.as_str.ensures c.in-Ok.ensures.ok utf8 (ap (λ t. script_of c.args.ports t) (sym same) ∙ (rw c.in-Err-Line.field-0-is at c.in-Err-Line.ensures)),
     )
