@@ -26,6 +26,7 @@ HALTS = bytes.fromhex("b7001000 13017000 23a02000")
 # jalr x0, 2(x0)
 TRAPS = bytes.fromhex("67002000")
 COPIED = bytes([1, 2, 3, 4])
+SECTOR = bytes(range(256)) * 2
 
 failures = []
 
@@ -134,6 +135,35 @@ ROWS = {
         ["@0 p0 write 0x0+4 = 0x0 code 0", "@1 p0 write 0x4+4 = 0x2 code 0", "@2 p0 write 0x8+4 = 0x80000000 code 0", "@3 p0 write 0xc+4 = 0x1 code 0", "@4 p0 read 0x10+4 = 0x1 code 0"]
         + [f"@10 p0 store 0x{0x80000000 + 64 * n:x}+64 due {3 if n == 0 else 10} = {'11' * 64} mask 0xffffffffffffffff code 0" for n in range(8)]
         + ["@10 p0 read 0x10+4 = 0x6 code 0", "stop halted 0 at 11", "lines 00000000", ram(bytes([0x11]) * 512, 4096)],
+        "",
+    ),
+    "starts that a disk refuses": (
+        {
+            "c": machine("script", 10, 100, script="s") + port("disk", 0x10000000, 0, disk="d") + "bad = [1]\n",
+            "d": bytes(1024),
+            "s": "write 0 0x4 4 0x0\nwrite 0 0xc 4 0x1\nwrite 0 0x0 4 0x1\nwrite 0 0x4 4 0x2\nwrite 0 0xc 4 0x1\nwrite 0 0x4 4 0x1\nwrite 0 0xc 4 0x1\nread 0 0x10 4\n",
+        },
+        0,
+        [
+            "@0 p0 write 0x4+4 = 0x0 code 0", "@1 p0 write 0xc+4 = 0x1 code 1", "@2 p0 write 0x0+4 = 0x1 code 0", "@3 p0 write 0x4+4 = 0x2 code 0",
+            "@4 p0 write 0xc+4 = 0x1 code 1", "@5 p0 write 0x4+4 = 0x1 code 0", "@6 p0 write 0xc+4 = 0x1 code 0", "@7 p0 read 0x10+4 = 0x6 code 0",
+            "stop halted 0 at 8", "lines 00000000", ram(b"", 4096),
+        ],
+        "",
+    ),
+    "a sector taken from RAM and given back": (
+        {
+            "c": machine("script", 10, 100, image="i", script="s") + port("disk", 0x10000000, 0, disk="d"),
+            "i": SECTOR,
+            "d": bytes(512),
+            "s": "write 0 0x8 4 0x80000000\nwrite 0 0x0 4 0x0\nwrite 0 0x4 4 0x1\nwrite 0 0xc 4 0x3\nwait 6\nwrite 0 0x8 4 0x80000400\nwrite 0 0xc 4 0x1\nwait 8\n",
+        },
+        0,
+        ["@0 p0 write 0x8+4 = 0x80000000 code 0", "@1 p0 write 0x0+4 = 0x0 code 0", "@2 p0 write 0x4+4 = 0x1 code 0", "@3 p0 write 0xc+4 = 0x3 code 0"]
+        + [f"@10 p0 fetch 0x{0x80000000 + 64 * n:x}+64 due {3 if n == 0 else 10} = {SECTOR[64 * n : 64 * n + 64].hex()} code 0" for n in range(8)]
+        + ["@10 p0 write 0x8+4 = 0x80000400 code 0", "@11 p0 write 0xc+4 = 0x1 code 0"]
+        + [f"@20 p0 store 0x{0x80000400 + 64 * n:x}+64 due {11 if n == 0 else 20} = {SECTOR[64 * n : 64 * n + 64].hex()} mask 0xffffffffffffffff code 0" for n in range(8)]
+        + ["stop halted 0 at 20", "lines 00000000", ram(SECTOR + bytes(512) + SECTOR, 4096)],
         "",
     ),
     "a script without a line": (
