@@ -183,10 +183,7 @@ impl<'a> Keys<'a> {
                 high,
                 step: 1,
             };
-            let number = match self.number_in(key, entry, limits) {
-                Ok(number) => number,
-                Err(fault) => return Err(fault),
-            };
+            let number = self.number_in(key, entry, limits)?;
             match numbers.push(number) {
                 Ok(()) => {}
                 Err(NoMemory) => return Err(ConfigFault::NoMemory),

@@ -155,10 +155,7 @@ pub fn steps_of(alloc: Global, text: &[u8], ports: u32) -> Result<Vec<ScriptStep
     let mut passed = 0;
     'lines: while !rest.is_empty() {
         let (line, after) = first_line(rest);
-        match add(&mut steps, line, passed + 1, ports) {
-            Ok(()) => {}
-            Err(fault) => return Err(fault),
-        }
+        add(&mut steps, line, passed + 1, ports)?;
         rest = after;
         passed += 1;
     }

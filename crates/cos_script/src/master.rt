@@ -53,10 +53,7 @@ impl ScriptMaster {
     ) -> Result<ScriptMaster, ScriptFault>
         ensures { Makes ports text.now ram result }
     {
-        let steps = match steps_of(alloc, text.as_bytes(), ports) {
-            Ok(steps) => steps,
-            Err(fault) => return Err(fault),
-        };
+        let steps = steps_of(alloc, text.as_bytes(), ports)?;
         Ok(ScriptMaster {
             steps,
             begun: 0,

@@ -139,10 +139,7 @@ impl Uart {
     {
         match register {
             Register::Data => {
-                match self.send(value) {
-                    Ok(()) => {}
-                    Err(NoMemory) => return Err(NoMemory),
-                }
+                self.send(value)?;
                 self.advance(tick);
                 self.settle();
                 Ok(given(0))

@@ -4,6 +4,7 @@ use Rattle.std.proofs.Common.{take, get_or, ◌∷◌}
 use Rattle.std.proofs.lemmas.List.{append-nil, take_more, take-append-drop}
 use Rattle.std.proofs.lemmas.List.Concat.{flat_map-append}
 use Rattle.std.specs.List.{flat_map}
+use Rattle.std.specs.Result.{IsErr}
 use Rattle.cos_base.specs.Counts.{Rises}
 use Rattle.cos_base.specs.Prefixes.{IsPrefix, IsPrefix-front, IsPrefix-rest}
 use Rattle.cos_base.specs.Sinks.{Puts, written, PutsSoundly}
@@ -63,6 +64,11 @@ sound-breaks (Some old) b before now held mid t u rest some (p, whole, is) lower
     length-append held (t ++ (u ++ rest)) ∙ ap (λ n. length held + n) (length-append t (u ++ rest) ∙ ap (λ n. length t + n) (length-append u rest)) in
     omega arith
 
+-- a failure that is handed on
+pub puts-fails : (a b : Option (List ℕ)) (t : List ℕ) (r : Result Unit Failed) → Puts a b t (Err (record {})) → IsErr r → Puts a b t r
+puts-fails a b t (Err e) puts is = puts
+puts-fails a b t (Ok x) puts is = cc is
+
 module _ {S : Type 0} (told : S → Option (List ℕ)) (count room : S → ℕ) (sound : S → Type 0) where
   abbrev pub Move : S → S → List ℕ → List ℕ → List ℕ → Result Unit Failed → Type 0
   Move = Moved told count room sound
@@ -73,6 +79,11 @@ module _ {S : Type 0} (told : S → Option (List ℕ)) (count room : S → ℕ) 
     tells = passes-nothing (told s) held;
     is_sound = λ is. (is, record { cause = tt; lowers = refl });
   }
+
+  -- a failure that is handed on
+  pub moved-fails : (a b : S) (held now t : List ℕ) (r : Result Unit Failed) → Move a b held now t (Err (record {})) → IsErr r → Move a b held now t r
+  moved-fails a b held now t (Err e) moved is = moved
+  moved-fails a b held now t (Ok x) moved is = cc is
 
   pub moved-more : (a b : S) (held mid t u : List ℕ) → Move a b held mid t (Ok tt) → Move a b held (mid ++ u) (t ++ u) (Ok tt)
   moved-more a b held mid t u first = record {

@@ -1,8 +1,8 @@
 // The lines of calls.
 ghost use Rattle.std.specs.Prelude.{◌≡◌, ◌+◌, ◌≤◌, ◌++◌, length, OnOk, OnErr};
-ghost use Rattle.transcript.specs.CallLines.{read_line, write_line, post_line, access_line, shown_bytes, call_text, HasLine, call_room};
+ghost use Rattle.transcript.specs.CallLines.{place_text, value_text, code_text, mask_text, access_line, shown_bytes, call_text, HasLine, call_room};
 
-use crate::pieces::Piece;
+use crate::pieces::{Piece, push_hex};
 use cos_base::{NoMemory, Octets};
 use cosim_model::{Access, Answer, Call, Reply, Want};
 
@@ -15,11 +15,12 @@ pub const SERVED_ROOM: usize = 296;
 /// What a fetch shows that wasn't served.
 const ZEROS: [u8; 64] = [0; 64];
 
-/// Appends the line of a read.
-fn push_read(out: &mut Octets, tick: u64, port: u32, access: &Access, answer: &Answer)
-    requires { ACCESS_ROOM ≤ out.old.spare }
-    ensures bytes { out.new.bytes ≡ out.old.bytes ++ read_line tick port access.now answer.now }
-    ensures spare { out.old.spare ≤ out.new.spare + ACCESS_ROOM }
+/// Appends when a call was made, at which port, what it did, and the bytes that it is about.
+fn push_place(out: &mut Octets, tick: u64, port: u32, name: &str, addr: u64, size: u8)
+    requires name { length name.now ≤ 5 }
+    requires room { 89 ≤ out.old.spare }
+    ensures bytes { out.new.bytes ≡ out.old.bytes ++ place_text tick port name.now addr size }
+    ensures spare { out.old.spare ≤ out.new.spare + 89 }
     ensures room { length out.new.bytes + out.new.spare ≡ length out.old.bytes + out.old.spare }
 {
     Piece::push_all(
@@ -29,69 +30,41 @@ fn push_read(out: &mut Octets, tick: u64, port: u32, access: &Access, answer: &A
             Piece::Decimal(tick),
             Piece::Text(" p"),
             Piece::Decimal(u64::from(port)),
-            Piece::Text(" read 0x"),
-            Piece::Hexadecimal(access.addr),
+            Piece::Text(" "),
+            Piece::Text(name),
+            Piece::Text(" 0x"),
+            Piece::Hexadecimal(addr),
             Piece::Text("+"),
-            Piece::Decimal(u64::from(access.size)),
-            Piece::Text(" = 0x"),
-            Piece::Hexadecimal(answer.value),
+            Piece::Decimal(u64::from(size)),
+        ],
+    );
+}
+
+/// Appends the code that was answered, and ends the line.
+fn push_code(out: &mut Octets, code: u8)
+    requires { 27 ≤ out.old.spare }
+    ensures bytes { out.new.bytes ≡ out.old.bytes ++ code_text code }
+    ensures spare { out.old.spare ≤ out.new.spare + 27 }
+    ensures room { length out.new.bytes + out.new.spare ≡ length out.old.bytes + out.old.spare }
+{
+    Piece::push_all(
+        out,
+        &[
             Piece::Text(" code "),
-            Piece::Decimal(u64::from(answer.code)),
+            Piece::Decimal(u64::from(code)),
             Piece::Text("\n"),
         ],
     );
 }
 
-/// Appends the line of a write that is answered.
-fn push_write(out: &mut Octets, tick: u64, port: u32, access: &Access, answer: &Answer)
-    requires { ACCESS_ROOM ≤ out.old.spare }
-    ensures bytes { out.new.bytes ≡ out.old.bytes ++ write_line tick port access.now answer.now }
-    ensures spare { out.old.spare ≤ out.new.spare + ACCESS_ROOM }
+/// Appends the value of an access.
+fn push_value(out: &mut Octets, value: u64)
+    requires { 21 ≤ out.old.spare }
+    ensures bytes { out.new.bytes ≡ out.old.bytes ++ value_text value }
+    ensures spare { out.old.spare ≤ out.new.spare + 21 }
     ensures room { length out.new.bytes + out.new.spare ≡ length out.old.bytes + out.old.spare }
 {
-    Piece::push_all(
-        out,
-        &[
-            Piece::Text("@"),
-            Piece::Decimal(tick),
-            Piece::Text(" p"),
-            Piece::Decimal(u64::from(port)),
-            Piece::Text(" write 0x"),
-            Piece::Hexadecimal(access.addr),
-            Piece::Text("+"),
-            Piece::Decimal(u64::from(access.size)),
-            Piece::Text(" = 0x"),
-            Piece::Hexadecimal(access.value),
-            Piece::Text(" code "),
-            Piece::Decimal(u64::from(answer.code)),
-            Piece::Text("\n"),
-        ],
-    );
-}
-
-/// Appends the line of a posted write.
-fn push_post(out: &mut Octets, tick: u64, port: u32, access: &Access)
-    requires { ACCESS_ROOM ≤ out.old.spare }
-    ensures bytes { out.new.bytes ≡ out.old.bytes ++ post_line tick port access.now }
-    ensures spare { out.old.spare ≤ out.new.spare + ACCESS_ROOM }
-    ensures room { length out.new.bytes + out.new.spare ≡ length out.old.bytes + out.old.spare }
-{
-    Piece::push_all(
-        out,
-        &[
-            Piece::Text("@"),
-            Piece::Decimal(tick),
-            Piece::Text(" p"),
-            Piece::Decimal(u64::from(port)),
-            Piece::Text(" post 0x"),
-            Piece::Hexadecimal(access.addr),
-            Piece::Text("+"),
-            Piece::Decimal(u64::from(access.size)),
-            Piece::Text(" = 0x"),
-            Piece::Hexadecimal(access.value),
-            Piece::Text("\n"),
-        ],
-    );
+    Piece::push_all(out, &[Piece::Text(" = 0x"), Piece::Hexadecimal(value)]);
 }
 
 /// Appends the line of an access.
@@ -102,10 +75,32 @@ fn push_access(out: &mut Octets, tick: u64, port: u32, access: &Access, answer: 
     ensures room { length out.new.bytes + out.new.spare ≡ length out.old.bytes + out.old.spare }
 {
     match (access.write, access.posted) {
-        (false, _) => push_read(out, tick, port, access, answer),
-        (true, false) => push_write(out, tick, port, access, answer),
-        (true, true) => push_post(out, tick, port, access),
+        (false, _) => {
+            push_place(out, tick, port, "read", access.addr, access.size);
+            push_value(out, answer.value);
+            push_code(out, answer.code);
+        }
+        (true, false) => {
+            push_place(out, tick, port, "write", access.addr, access.size);
+            push_value(out, access.value);
+            push_code(out, answer.code);
+        }
+        (true, true) => {
+            push_place(out, tick, port, "post", access.addr, access.size);
+            push_value(out, access.value);
+            out.push_spare(b"\n");
+        }
     }
+}
+
+/// Appends which bytes are enabled.
+fn push_mask(out: &mut Octets, mask: u64)
+    requires { 24 ≤ out.old.spare }
+    ensures bytes { out.new.bytes ≡ out.old.bytes ++ mask_text mask }
+    ensures spare { out.old.spare ≤ out.new.spare + 24 }
+    ensures room { length out.new.bytes + out.new.spare ≡ length out.old.bytes + out.old.spare }
+{
+    Piece::push_all(out, &[Piece::Text(" mask 0x"), Piece::Hexadecimal(mask)]);
 }
 
 /// The bytes that a reply shows: zeros where its code isn't 0.
@@ -133,7 +128,24 @@ struct Served {
 impl Served {
     ghost use Rattle.std.specs.Prelude.{◌≡◌, ◌+◌, ◌≤◌, ◌++◌, length};
     ghost use Rattle.cosim_model.specs.declared.values.Want.TheVariants.{Fetch, Store, Line};
-    ghost use Rattle.transcript.specs.CallLines.{want_line, IsShort};
+    ghost use Rattle.transcript.specs.CallLines.{due_text, want_line, IsShort};
+
+    /// Appends when the want arose, and what stands before its bytes.
+    fn push_due(self, out: &mut Octets)
+        requires { 28 ≤ out.old.spare }
+        ensures bytes { out.new.bytes ≡ out.old.bytes ++ due_text self.due }
+        ensures spare { out.old.spare ≤ out.new.spare + 28 }
+        ensures room { length out.new.bytes + out.new.spare ≡ length out.old.bytes + out.old.spare }
+    {
+        Piece::push_all(
+            out,
+            &[
+                Piece::Text(" due "),
+                Piece::Decimal(self.due),
+                Piece::Text(" = "),
+            ],
+        );
+    }
 
     /// Appends the line of a fetch.
     fn push_fetch(self, out: &mut Octets, addr: u64, size: u8, reply: &Reply)
@@ -143,27 +155,10 @@ impl Served {
         ensures spare { out.old.spare ≤ out.new.spare + SERVED_ROOM }
         ensures room { length out.new.bytes + out.new.spare ≡ length out.old.bytes + out.old.spare }
     {
-        let shown = shown(reply);
-        Piece::push_all(
-            out,
-            &[
-                Piece::Text("@"),
-                Piece::Decimal(self.tick),
-                Piece::Text(" p"),
-                Piece::Decimal(u64::from(self.port)),
-                Piece::Text(" fetch 0x"),
-                Piece::Hexadecimal(addr),
-                Piece::Text("+"),
-                Piece::Decimal(u64::from(size)),
-                Piece::Text(" due "),
-                Piece::Decimal(self.due),
-                Piece::Text(" = "),
-                Piece::Bytes(shown),
-                Piece::Text(" code "),
-                Piece::Decimal(u64::from(reply.code)),
-                Piece::Text("\n"),
-            ],
-        );
+        push_place(out, self.tick, self.port, "fetch", addr, size);
+        self.push_due(out);
+        push_hex(out, shown(reply));
+        push_code(out, reply.code);
     }
 
     /// Appends the line of a store.
@@ -183,28 +178,11 @@ impl Served {
         ensures room { length out.new.bytes + out.new.spare ≡ length out.old.bytes + out.old.spare }
     {
         let (stored, _) = bytes.split_at(usize::from(size));
-        Piece::push_all(
-            out,
-            &[
-                Piece::Text("@"),
-                Piece::Decimal(self.tick),
-                Piece::Text(" p"),
-                Piece::Decimal(u64::from(self.port)),
-                Piece::Text(" store 0x"),
-                Piece::Hexadecimal(addr),
-                Piece::Text("+"),
-                Piece::Decimal(u64::from(size)),
-                Piece::Text(" due "),
-                Piece::Decimal(self.due),
-                Piece::Text(" = "),
-                Piece::Bytes(stored),
-                Piece::Text(" mask 0x"),
-                Piece::Hexadecimal(mask),
-                Piece::Text(" code "),
-                Piece::Decimal(u64::from(reply.code)),
-                Piece::Text("\n"),
-            ],
-        );
+        push_place(out, self.tick, self.port, "store", addr, size);
+        self.push_due(out);
+        push_hex(out, stored);
+        push_mask(out, mask);
+        push_code(out, reply.code);
     }
 
     /// Appends the line of a level.

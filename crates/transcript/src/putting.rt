@@ -57,10 +57,8 @@ fn move_calls<K: Sink>(calls: &[Call], piece: &mut Octets, out: &mut K) -> Resul
     ensures empty { OnErr result (piece.new.bytes ≡ []) }
 {
     for call in calls {
-        match make_room(room_of(call), piece, out) {
-            Ok(()) => push_call(piece, call),
-            Err(Failed) => return Err(Failed),
-        }
+        make_room(room_of(call), piece, out)?;
+        push_call(piece, call);
     }
     Ok(())
 }
@@ -75,10 +73,8 @@ fn move_bytes<K: Sink>(bytes: &[u8], piece: &mut Octets, out: &mut K) -> Result<
     let mut rest = bytes;
     'chunks: while rest.len() > 0 {
         let (front, back) = rest.split_at(rest.len().min(64));
-        match make_room(128, piece, out) {
-            Ok(()) => push_hex(piece, front),
-            Err(Failed) => return Err(Failed),
-        }
+        make_room(128, piece, out)?;
+        push_hex(piece, front);
         rest = back;
     }
     Ok(())
@@ -91,18 +87,11 @@ fn move_out<K: Sink>(uart: &Out, piece: &mut Octets, out: &mut K) -> Result<(), 
     ensures piece { IsPiece piece.new }
     ensures empty { OnErr result (piece.new.bytes ≡ []) }
 {
-    match make_room(28, piece, out) {
-        Ok(()) => push_out_head(piece, uart),
-        Err(Failed) => return Err(Failed),
-    }
-    match move_bytes(uart.bytes.as_slice(), piece, out) {
-        Ok(()) => {}
-        Err(Failed) => return Err(Failed),
-    }
-    match make_room(1, piece, out) {
-        Ok(()) => piece.push_spare(b"\n"),
-        Err(Failed) => return Err(Failed),
-    }
+    make_room(28, piece, out)?;
+    push_out_head(piece, uart);
+    move_bytes(uart.bytes.as_slice(), piece, out)?;
+    make_room(1, piece, out)?;
+    piece.push_spare(b"\n");
     Ok(())
 }
 
@@ -114,10 +103,7 @@ fn move_outs<K: Sink>(uarts: &[Out], piece: &mut Octets, out: &mut K) -> Result<
     ensures empty { OnErr result (piece.new.bytes ≡ []) }
 {
     for uart in uarts {
-        match move_out(uart, piece, out) {
-            Ok(()) => {}
-            Err(Failed) => return Err(Failed),
-        }
+        move_out(uart, piece, out)?;
     }
     Ok(())
 }
@@ -129,10 +115,8 @@ fn move_closing<K: Sink>(end: &Ending, piece: &mut Octets, out: &mut K) -> Resul
     ensures piece { IsPiece piece.new }
     ensures empty { OnErr result (piece.new.bytes ≡ []) }
 {
-    match make_room(HEAD_ROOM, piece, out) {
-        Ok(()) => push_head(piece, end),
-        Err(Failed) => return Err(Failed),
-    }
+    make_room(HEAD_ROOM, piece, out)?;
+    push_head(piece, end);
     move_outs(end.outs.as_slice(), piece, out)
 }
 
@@ -158,12 +142,7 @@ pub fn put_lines<K: Sink>(
     ensures piece { piece.new.bytes ≡ [] }
     ensures still { 512 ≤ piece.new.spare }
 {
-    match move_calls(calls.as_slice(), piece, out) {
-        Ok(()) => {}
-        Err(Failed) => return Err(Failed),
-    }
-    match move_closing(end, piece, out) {
-        Ok(()) => put_piece(piece, out),
-        Err(Failed) => Err(Failed),
-    }
+    move_calls(calls.as_slice(), piece, out)?;
+    move_closing(end, piece, out)?;
+    put_piece(piece, out)
 }

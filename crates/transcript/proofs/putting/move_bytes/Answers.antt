@@ -1,7 +1,7 @@
 use Rattle.std.proofs.Common.{[], ◌++◌, refl, sym, ◌∙◌, arith}
 use Rattle.hex.specs.Hex.{encode_lower}
 use Rattle.transcript.proofs.HexDigits.{encode_lower-step, encode_lower-none}
-use Rattle.transcript.proofs.Moving.{moved-nothing, moved-pushed, moved-stops, moved-text}
+use Rattle.transcript.proofs.Moving.{moved-fails, moved-nothing, moved-pushed, moved-stops, moved-text}
 use Rattle.transcript.proofs.putting.move_bytes.Goals as goal
 
 pub chunks-init : goal.chunks-init
@@ -11,20 +11,22 @@ chunks-init g c =
 pub chunks-preserved : goal.chunks-preserved
 chunks-preserved g c =
     let inv = c.chunks.invariant.1 in (
-      record { short = omega (arith, c.in-Ok.ensures.room, c.in-Ok.ensures.piece); room = omega (arith, c.in-Ok.ensures.piece) },
+      record { short = omega (arith, c.in_ok-make_room.ensures.room, c.in_ok-make_room.ensures.piece); room = omega (arith, c.in_ok-make_room.ensures.piece) },
       (
         inv.0 ++ encode_lower c.split_at.result.0.now,
         sym (encode_lower-step _ inv.0 c.chunks.rest.now _ _ _ c.split_at.ensures.front c.split_at.ensures.back (sym inv.1)),
         moved-pushed g.K.Sink.told g.K.Sink.count g.K.Sink.room g.K.Sink.sound _ _ _ _ _ _ _ _ _ _
-            inv.2 c.in-Ok.ensures.moved c.push_hex.ensures.bytes refl,
+            inv.2 c.in_ok-make_room.ensures.moved c.push_hex.ensures.bytes refl,
       ),
     )
 
-pub returns-in-Err-clause-moved : goal.returns-in-Err-clause-moved
-returns-in-Err-clause-moved g c =
+pub returns-in_err-make_room-clause-moved : goal.returns-in_err-make_room-clause-moved
+returns-in_err-make_room-clause-moved g c =
     let inv = c.chunks.invariant.1 in
-    moved-stops g.K.Sink.told g.K.Sink.count g.K.Sink.room g.K.Sink.sound g.met.K.Sink.sound_tells _ _ _ _ _ _ _ _ _ _ _ _
-    inv.2 c.in-Err.ensures.moved inv.1
+    moved-fails g.K.Sink.told g.K.Sink.count g.K.Sink.room g.K.Sink.sound _ _ _ _ _ _
+    (moved-stops g.K.Sink.told g.K.Sink.count g.K.Sink.room g.K.Sink.sound g.met.K.Sink.sound_tells _ _ _ _ _ _ _ _ _ _ _ _
+    inv.2 c.in_err-make_room.ensures.moved inv.1)
+    c.from_residual.ensures.0
 
 pub returns-clause-moved : goal.returns-clause-moved
 returns-clause-moved g c =

@@ -1,17 +1,19 @@
 use Rattle.transcript.specs.ClosingLines.{out_line}
-use Rattle.transcript.proofs.Moving.{moved-then, moved-stops, flat_map-rest-item, flat_map-next-item}
+use Rattle.transcript.proofs.Moving.{moved-fails, moved-then, moved-stops, flat_map-rest-item, flat_map-next-item}
 use Rattle.transcript.proofs.putting.move_outs.Goals as goal
 
-pub returns-in-Err-clause-moved : goal.returns-in-Err-clause-moved
-returns-in-Err-clause-moved g c =
+pub returns-in_err-move_out-clause-moved : goal.returns-in_err-move_out-clause-moved
+returns-in_err-move_out-clause-moved g c =
     let i = c.loop-uart.uart-index in
-    moved-stops g.K.Sink.told g.K.Sink.count g.K.Sink.room g.K.Sink.sound g.met.K.Sink.sound_tells _ _ _ _ _ _ _ _ _ _ _ _
-    c.loop-uart.invariant.1 c.in-Err.ensures.moved (flat_map-rest-item out_line i c.args.uarts.now c.uart-item.result c.loop-uart-test.true c.uart-item.is)
+    moved-fails g.K.Sink.told g.K.Sink.count g.K.Sink.room g.K.Sink.sound _ _ _ _ _ _
+    (moved-stops g.K.Sink.told g.K.Sink.count g.K.Sink.room g.K.Sink.sound g.met.K.Sink.sound_tells _ _ _ _ _ _ _ _ _ _ _ _
+    c.loop-uart.invariant.1 c.in_err-move_out.ensures.moved (flat_map-rest-item out_line i c.args.uarts.now c.uart-item.result c.loop-uart-test.true c.uart-item.is))
+    c.from_residual.ensures.0
 
 pub loop-uart-preserved : goal.loop-uart-preserved
 loop-uart-preserved g c =
     let i = c.loop-uart.uart-index in (
-      c.in-Ok.ensures.piece,
+      c.in_ok-move_out.ensures.piece,
       moved-then g.K.Sink.told g.K.Sink.count g.K.Sink.room g.K.Sink.sound _ _ _ _ _ _ _ _ _
-          c.loop-uart.invariant.1 c.in-Ok.ensures.moved (flat_map-next-item out_line i c.args.uarts.now c.uart-item.result c.loop-uart-test.true c.uart-item.is),
+          c.loop-uart.invariant.1 c.in_ok-move_out.ensures.moved (flat_map-next-item out_line i c.args.uarts.now c.uart-item.result c.loop-uart-test.true c.uart-item.is),
     )
