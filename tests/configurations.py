@@ -41,9 +41,9 @@ def script(**changes):
     return table("[machine]", {"kind": '"script"', "script": '"s"', "ram": 4096, "quantum": 100, "units": 1000}, changes)
 
 
-def port(kind, base=0x10000000, line=0, **changes):
-    settings = {"kind": f'"{kind}"', "base": base, "size": 4096, "line": None if kind == "null" else line}
-    return table("[[port]]", {**settings, "disk": '"d"' if kind == "disk" else None}, changes)
+def port(device, base=0x10000000, number=0, **changes):
+    settings = {"kind": f'"{device}"', "base": base, "size": 4096, "line": None if device == "null" else number}
+    return table("[[port]]", {**settings, "disk": '"d"' if device == "disk" else None}, changes)
 
 
 TEXTS = [

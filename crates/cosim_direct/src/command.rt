@@ -25,8 +25,14 @@ fn finish<F: Files>(alloc: Global, name: &str, files: &mut F) -> Result<Finished
     ensures err { IfErr result (IsNotRun (seen F.count F.told files.old files.new) name.now) }
     ensures is_sound { F.sound files.old → IfErr result (IsLackingOne (F.told files.old) name.now) }
 {
-    let config = read_config(alloc, files, name, Sockets::Unneeded)?;
-    let machine = read_machine(alloc, files, &config)?;
+    let config = match read_config(alloc, files, name, Sockets::Unneeded) {
+        Ok(config) => config,
+        Err(status) => return Err(status),
+    };
+    let machine = match read_machine(alloc, files, &config) {
+        Ok(machine) => machine,
+        Err(status) => return Err(status),
+    };
     let plan = Plan {
         quantum: config.quantum,
         units: config.units,

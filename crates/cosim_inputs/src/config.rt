@@ -36,7 +36,10 @@ pub fn read_config<F: Files>(
     // Sound files are blamed only where they lack the name.
     ensures is_sound { F.sound files.old → F.sound files.new × IfErr result (IsLacking (F.told files.old) name.now) }
 {
-    let bytes = read_file(files, name)?;
+    let bytes = match read_file(files, name) {
+        Ok(bytes) => bytes,
+        Err(status) => return Err(status),
+    };
     match judge_text(alloc, bytes.as_slice(), sockets) {
         Ok(config) => Ok(config),
         Err(ConfigFault::NoMemory) => Err(Status::NoMemory),

@@ -43,7 +43,10 @@ fn read_input<F: Files>(
         Some(name) => name,
         None => return Ok(Octets::make(alloc)),
     };
-    let bytes = read_file(files, name.as_str())?;
+    let bytes = match read_file(files, name.as_str()) {
+        Ok(bytes) => bytes,
+        Err(status) => return Err(status),
+    };
     if bytes.len() > MOST_INPUT {
         return Err(Status::Input(InputFault::UartInput {
             port,
@@ -63,7 +66,10 @@ fn read_image<F: Files>(files: &mut F, port: u32, name: &Name) -> Result<Octets,
     ensures err { IfErr result (AreUnread (seen F.count F.told files.old files.new) (asked_as (AsDisk port) (Some name.now))) }
     ensures is_sound { F.sound files.old → F.sound files.new × IfErr result (AreLacking (F.told files.old) (asked_as (AsDisk port) (Some name.now))) }
 {
-    let bytes = read_file(files, name.as_str())?;
+    let bytes = match read_file(files, name.as_str()) {
+        Ok(bytes) => bytes,
+        Err(status) => return Err(status),
+    };
     let len = bytes.len();
     if len % SECTOR == 0 && SECTOR <= len && len <= MOST_IMAGE {
         return Ok(bytes);
@@ -181,7 +187,10 @@ pub fn read_devices<F: Files>(
     let mut devices = Vec::new(alloc);
     'ports: for config in ports {
         let port = devices.len() as u32;
-        let device = read_device(alloc, files, port, config)?;
+        let device = match read_device(alloc, files, port, config) {
+            Ok(device) => device,
+            Err(status) => return Err(status),
+        };
         match devices.push(device) {
             Ok(()) => {}
             Err(_) => return Err(Status::NoMemory),

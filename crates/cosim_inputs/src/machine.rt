@@ -48,7 +48,10 @@ pub fn read_machine<F: Files>(
     // Sound files are blamed only where the first file that something stands against isn't there.
     ensures is_sound { F.sound files.old → F.sound files.new × IfErr result (AreLacking (F.told files.old) (machine_files config.now)) }
 {
-    let master = read_master(alloc, files, config)?;
+    let master = match read_master(alloc, files, config) {
+        Ok(master) => master,
+        Err(status) => return Err(status),
+    };
     match read_devices(alloc, files, config.ports.as_slice()) {
         Ok(devices) => Ok(Machine { master, devices }),
         Err(status) => Err(status),

@@ -37,7 +37,10 @@ fn read_ram<F: Files>(alloc: Global, files: &mut F, config: &Config) -> Result<R
         Some(name) => name,
         None => return Ok(ram),
     };
-    let bytes = read_file(files, name.as_str())?;
+    let bytes = match read_file(files, name.as_str()) {
+        Ok(bytes) => bytes,
+        Err(status) => return Err(status),
+    };
     match ram.load(bytes.as_slice()) {
         Ok(()) => Ok(ram),
         Err(ImageFault::Empty) => Err(Status::Input(InputFault::ImageEmpty)),
@@ -95,7 +98,10 @@ fn read_script<F: Files>(
     ensures err { IfErr result (AreUnread (seen F.count F.told files.old files.new) (asked_as (AsScript ports) (Some name.now))) }
     ensures is_sound { F.sound files.old → F.sound files.new × IfErr result (AreLacking (F.told files.old) (asked_as (AsScript ports) (Some name.now))) }
 {
-    let bytes = read_file(files, name.as_str())?;
+    let bytes = match read_file(files, name.as_str()) {
+        Ok(bytes) => bytes,
+        Err(status) => return Err(status),
+    };
     let text = match str::from_utf8(bytes.as_slice()) {
         Ok(text) => text,
         Err(_) => return Err(Status::Input(InputFault::Line { line: 1 })),
@@ -126,7 +132,10 @@ pub fn read_master<F: Files>(
     // Sound files are blamed only where the first file that something stands against isn't there.
     ensures is_sound { F.sound files.old → F.sound files.new × IfErr result (AreLacking (F.told files.old) (master_files config.now)) }
 {
-    let ram = read_ram(alloc, files, config)?;
+    let ram = match read_ram(alloc, files, config) {
+        Ok(ram) => ram,
+        Err(status) => return Err(status),
+    };
     let ports = config.ports.as_slice();
     match config.kind {
         MachineKind::Rv => match make_hart(alloc, ports, ram) {

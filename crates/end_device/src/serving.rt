@@ -34,7 +34,10 @@ fn step<L: Link>(
         Settles offer w count end.new (L.told link.new) result }
 {
     out.clear();
-    let turn = end.turn(out)?;
+    let turn = match end.turn(out) {
+        Ok(turn) => turn,
+        Err(fault) => return Err(fault),
+    };
     match send(out.as_slice(), link) {
         Ok(()) => Ok(turn),
         Err(SendFault::Link { count }) => Err(EndFault::Link { count }),

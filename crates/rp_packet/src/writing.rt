@@ -116,7 +116,10 @@ fn put_bus(
     ensures { Writes (header_bytes (command_number cmd) (length (bus_bytes (fields_of access.now))) tag.id tag.flags tag.dev ++ bus_bytes (fields_of access.now))
         (write_fault carries (fields_of access.now)) out.old out.new result }
 {
-    let size = access.body_len(carries)?;
+    let size = match access.body_len(carries) {
+        Ok(size) => size,
+        Err(fault) => return Err(fault),
+    };
     match out.reserve(20 + size) {
         Ok(()) => {}
         Err(_) => return Err(WriteFault::NoMemory),
