@@ -7,7 +7,7 @@ here=$(cd "$(dirname "$0")" && pwd)
 name=${1:?"usage: run.sh hello|dma_copy|echo"}
 program=${COSIM:-$here/../crates/cosim/out/cosim}
 if [ ! -x "$program" ]; then
-    echo "proving and building $program (some fifteen minutes on four processors)" >&2
+    echo "proving and building $program (some 25 minutes on four processors)" >&2
     (cd "$here/.." && rt all check --jobs "$(nproc)" && cd crates/cosim && rt run) >/dev/null 2>&1 || true
 fi
 work=$(mktemp -d)
