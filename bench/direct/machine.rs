@@ -7,6 +7,8 @@
 use std::fmt::Write as _;
 use std::io::Write as _;
 
+include!("../hart.rs");
+
 const RAM: u32 = 0x8000_0000;
 const SYSTEM: u32 = 0x0010_0000;
 const WINDOWS: u32 = 0x1000_0000;
@@ -192,16 +194,7 @@ impl Device {
 
 struct Machine {
     ram: Vec<u8>,
-    pc: u32,
-    x: [u32; 32],
-    mie: u32,
-    mpie: bool,
-    on: bool,
-    mtvec: u32,
-    mscratch: u32,
-    mepc: u32,
-    mcause: u32,
-    mtval: u32,
+    hart: Hart,
     lines: u32,
     enable: u32,
     tenable: u32,
@@ -217,18 +210,8 @@ impl Machine {
         (addr >= base && addr + size <= base + self.ram.len() as u64).then(|| (addr - base) as usize)
     }
 
-    fn mip(&self) -> u32 {
+    fn pending(&self) -> u32 {
         ((self.lines & self.enable != 0) as u32) << 11 | ((self.lines & self.tenable != 0) as u32) << 7
-    }
-
-    fn trap(&mut self, cause: u32, value: u32) {
-        self.mepc = self.pc & !3;
-        self.mcause = cause;
-        self.mtval = value;
-        self.mpie = self.on;
-        self.on = false;
-        let base = self.mtvec & !3;
-        self.pc = if self.mtvec & 1 == 1 && cause >> 31 == 1 { base.wrapping_add(4 * (cause & 0x7fff_ffff)) } else { base };
     }
 
     /// A load or store that isn't in RAM, or none where it is refused.
@@ -263,188 +246,37 @@ impl Machine {
         (code == 0).then_some(got)
     }
 
-    fn load(&mut self, addr: u32, size: u32) -> Option<u32> {
-        match self.place(u64::from(addr), u64::from(size)) {
-            Some(at) => Some(match size {
-                1 => u32::from(self.ram[at]),
-                2 => u32::from(u16::from_le_bytes([self.ram[at], self.ram[at + 1]])),
-                _ => u32::from_le_bytes([self.ram[at], self.ram[at + 1], self.ram[at + 2], self.ram[at + 3]]),
-            }),
-            None => self.outside(false, addr, size, 0),
-        }
-    }
-
-    fn store(&mut self, addr: u32, size: u32, value: u32) -> Option<()> {
-        match self.place(u64::from(addr), u64::from(size)) {
-            Some(at) => {
-                self.ram[at..at + size as usize].copy_from_slice(&value.to_le_bytes()[..size as usize]);
-                Some(())
-            }
-            None => self.outside(true, addr, size, value).map(|_| ()),
-        }
-    }
-
-    fn csr(&self, number: u32) -> Option<u32> {
-        Some(match number {
-            0x300 => 0x1800 | (self.on as u32) << 3 | (self.mpie as u32) << 7,
-            0x301 => 0x4000_0100,
-            0x304 => self.mie,
-            0x305 => self.mtvec,
-            0x340 => self.mscratch,
-            0x341 => self.mepc,
-            0x342 => self.mcause,
-            0x343 => self.mtval,
-            0x344 => self.mip(),
-            0xf11..=0xf14 => 0,
-            _ => return None,
+    fn load_ram(&self, addr: u32, size: u8) -> Option<u32> {
+        let at = self.place(u64::from(addr), u64::from(size))?;
+        Some(match size {
+            1 => u32::from(self.ram[at]),
+            2 => u32::from(u16::from_le_bytes([self.ram[at], self.ram[at + 1]])),
+            _ => u32::from_le_bytes([self.ram[at], self.ram[at + 1], self.ram[at + 2], self.ram[at + 3]]),
         })
     }
 
-    fn set_csr(&mut self, number: u32, value: u32) {
-        match number {
-            0x300 => { self.on = value >> 3 & 1 == 1; self.mpie = value >> 7 & 1 == 1 }
-            0x304 => self.mie = value & 0x880,
-            0x305 => self.mtvec = value & !2,
-            0x340 => self.mscratch = value,
-            0x341 => self.mepc = value & !3,
-            0x342 => self.mcause = value,
-            0x343 => self.mtval = value,
-            _ => {}
-        }
+    fn store_ram(&mut self, addr: u32, size: u8, value: u32) -> Option<u32> {
+        let at = self.place(u64::from(addr), u64::from(size))?;
+        let size = usize::from(size);
+        self.ram[at..at + size].copy_from_slice(&value.to_le_bytes()[..size]);
+        Some(0)
     }
 
-    fn set(&mut self, rd: usize, value: u32) {
-        if rd != 0 {
-            self.x[rd] = value;
-        }
+    /// The answer to a load or a store, or none where it is refused.
+    fn answer(&mut self, access: Access) -> Option<u32> {
+        let Access { write, addr, size, value } = access;
+        let ram = if write { self.store_ram(addr, size, value) } else { self.load_ram(addr, size) };
+        ram.or_else(|| self.outside(write, addr, u32::from(size), value))
     }
 
     /// One unit.
     fn unit(&mut self) {
-        let taken = self.mie & self.mip();
-        if self.on && taken != 0 {
-            return self.trap(if taken & 0x800 != 0 { 0x8000_000b } else { 0x8000_0007 }, 0);
+        let fetched = self.load_ram(self.hart.pc, 4);
+        let pending = self.pending();
+        if let Done::Bus(access, word) = self.hart.issue(fetched, pending) {
+            let answer = self.answer(access);
+            self.hart.finish(word, answer);
         }
-        let Some(at) = self.place(u64::from(self.pc), 4) else { return self.trap(1, self.pc) };
-        let word = u32::from_le_bytes([self.ram[at], self.ram[at + 1], self.ram[at + 2], self.ram[at + 3]]);
-        let (rd, rs1, rs2) = ((word >> 7 & 31) as usize, (word >> 15 & 31) as usize, (word >> 20 & 31) as usize);
-        let (f3, f7) = (word >> 12 & 7, word >> 25);
-        let (a, b) = (self.x[rs1], self.x[rs2]);
-        let next = self.pc.wrapping_add(4);
-        let imm_i = (word as i32 >> 20) as u32;
-        let imm_s = (word as i32 >> 25 << 5) as u32 | rd as u32;
-        match word & 0x7f {
-            0x37 => self.set(rd, word & 0xffff_f000),
-            0x17 => self.set(rd, self.pc.wrapping_add(word & 0xffff_f000)),
-            0x6f => {
-                let imm = (word as i32 >> 31 << 20) as u32 | (word & 0xff000) | (word >> 20 & 1) << 11 | (word >> 21 & 0x3ff) << 1;
-                let target = self.pc.wrapping_add(imm);
-                if target % 4 != 0 {
-                    return self.trap(0, target);
-                }
-                self.set(rd, next);
-                self.pc = target;
-                return;
-            }
-            0x67 if f3 == 0 => {
-                let target = a.wrapping_add(imm_i) & !1;
-                if target % 4 != 0 {
-                    return self.trap(0, target);
-                }
-                self.set(rd, next);
-                self.pc = target;
-                return;
-            }
-            0x63 if f3 != 2 && f3 != 3 => {
-                let go = match f3 {
-                    0 => a == b,
-                    1 => a != b,
-                    4 => (a as i32) < b as i32,
-                    5 => a as i32 >= b as i32,
-                    6 => a < b,
-                    _ => a >= b,
-                };
-                if go {
-                    let imm = (word as i32 >> 31 << 12) as u32 | (word >> 7 & 1) << 11 | (word >> 25 & 0x3f) << 5 | (word >> 8 & 0xf) << 1;
-                    let target = self.pc.wrapping_add(imm);
-                    if target % 4 != 0 {
-                        return self.trap(0, target);
-                    }
-                    self.pc = target;
-                    return;
-                }
-            }
-            0x03 if matches!(f3, 0 | 1 | 2 | 4 | 5) => {
-                let (addr, size) = (a.wrapping_add(imm_i), 1 << (f3 & 3));
-                if addr % size != 0 {
-                    return self.trap(4, addr);
-                }
-                let Some(value) = self.load(addr, size) else { return self.trap(5, addr) };
-                self.set(rd, match f3 {
-                    0 => value as u8 as i8 as u32,
-                    1 => value as u16 as i16 as u32,
-                    _ => value,
-                });
-            }
-            0x23 if f3 < 3 => {
-                let (addr, size) = (a.wrapping_add(imm_s), 1 << f3);
-                if addr % size != 0 {
-                    return self.trap(6, addr);
-                }
-                let value = if size == 4 { b } else { b & ((1 << (8 * size)) - 1) };
-                if self.store(addr, size, value).is_none() {
-                    return self.trap(7, addr);
-                }
-            }
-            0x13 if (f3 != 1 || f7 == 0) && (f3 != 5 || f7 == 0 || f7 == 0x20) => self.set(rd, match f3 {
-                0 => a.wrapping_add(imm_i),
-                1 => a << (imm_i & 31),
-                2 => ((a as i32) < imm_i as i32) as u32,
-                3 => (a < imm_i) as u32,
-                4 => a ^ imm_i,
-                5 if f7 == 0 => a >> (imm_i & 31),
-                5 => (a as i32 >> (imm_i & 31)) as u32,
-                6 => a | imm_i,
-                _ => a & imm_i,
-            }),
-            0x33 if f7 == 0 || f7 == 0x20 && matches!(f3, 0 | 5) => self.set(rd, match (f3, f7) {
-                (0, 0) => a.wrapping_add(b),
-                (0, _) => a.wrapping_sub(b),
-                (1, _) => a << (b & 31),
-                (2, _) => ((a as i32) < b as i32) as u32,
-                (3, _) => (a < b) as u32,
-                (4, _) => a ^ b,
-                (5, 0) => a >> (b & 31),
-                (5, _) => (a as i32 >> (b & 31)) as u32,
-                (6, _) => a | b,
-                _ => a & b,
-            }),
-            0x0f if f3 == 0 => {}
-            0x73 if word == 0x73 => return self.trap(11, 0),
-            0x73 if word == 0x0010_0073 => return self.trap(3, 0),
-            0x73 if word == 0x3020_0073 => {
-                self.pc = self.mepc;
-                self.on = self.mpie;
-                self.mpie = true;
-                return;
-            }
-            0x73 if word == 0x1050_0073 => {}
-            0x73 if f3 & 3 != 0 => {
-                let number = word >> 20;
-                let Some(old) = self.csr(number) else { return self.trap(2, word) };
-                let given = if f3 & 4 != 0 { rs1 as u32 } else { a };
-                let writes = f3 & 3 == 1 || rs1 != 0;
-                if writes && number >= 0xf11 {
-                    return self.trap(2, word);
-                }
-                if writes {
-                    self.set_csr(number, match f3 & 3 { 1 => given, 2 => old | given, _ => old & !given });
-                }
-                self.set(rd, old);
-            }
-            _ => return self.trap(2, word),
-        }
-        self.pc = next;
     }
 
     /// Serves the wants, that of the least due time first, and that of the least port among equals.
@@ -578,8 +410,7 @@ fn main() {
     ram[..image.len()].copy_from_slice(&image);
     let devices = words[4..].iter().map(|word| device(word)).collect();
     let mut m = Machine {
-        ram, pc: RAM, x: [0; 32], mie: 0, mpie: false, on: false, mtvec: 0, mscratch: 0, mepc: 0, mcause: 0, mtval: 0,
-        lines: 0, enable: 0, tenable: 0, stop: None, devices, calls: Vec::new(), tick: 0,
+        ram, hart: Hart::reset(RAM), lines: 0, enable: 0, tenable: 0, stop: None, devices, calls: Vec::new(), tick: 0,
     };
     m.run(number(2), number(3));
     let mut out = String::new();
@@ -590,8 +421,8 @@ fn main() {
         Some(code) => writeln!(out, "stop halted {code} at {}", m.tick),
         None => writeln!(out, "stop budget at {}", m.tick),
     };
-    let _ = write!(out, "pc {:08x}\nregs", m.pc);
-    for value in &m.x[1..] {
+    let _ = write!(out, "pc {:08x}\nregs", m.hart.pc);
+    for value in &m.hart.regs[1..] {
         let _ = write!(out, " {value:08x}");
     }
     let _ = writeln!(out, "\nlines {:08x}\nram {}", m.lines, hex(&sha256(&m.ram)));
