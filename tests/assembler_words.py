@@ -1,8 +1,7 @@
 #!/usr/bin/env python3
 """Compares the images that `cosim asm` writes with those of GNU's assembler for RISC-V, and lists them back by `cosim dis`.
 
-It needs GNU binutils for RISC-V; where they aren't installed it says so and ends with 0. The program is
-crates/cosim/out/cosim, where `rt ci` and `rt run` leave it; where it isn't there, `rt run` builds it.
+It needs GNU binutils for RISC-V; where they aren't installed it says so and ends with 0.
 The script ends with 1 on any mismatch.
 """
 
@@ -14,11 +13,9 @@ import subprocess
 import sys
 import tempfile
 
-TOP = os.path.dirname(os.path.dirname(os.path.abspath(__file__)))
-CRATE = os.path.join(TOP, "crates", "cosim")
-PROGRAM = os.path.join(CRATE, "out", "cosim")
+from support.program import TOP, built, failures, run, told
+
 EXAMPLE = os.path.join(TOP, "examples", "one_byte.s")
-SECONDS = 60
 PREFIXES = ["riscv64-unknown-elf-", "riscv32-unknown-elf-", "riscv64-linux-gnu-", "riscv64-elf-"]
 TOOLS = ["as", "ld", "objcopy"]
 ROUNDS = 40
@@ -43,16 +40,6 @@ done:
         bne   x1, x0, start
         jal   x5, again
 """
-
-failures = []
-
-
-def built():
-    """Builds the program where no run of the gate left it."""
-    if not os.path.exists(PROGRAM):
-        subprocess.run(["rt", "run"], cwd=CRATE, stdout=subprocess.DEVNULL, stderr=subprocess.DEVNULL, check=False)
-    if not os.path.exists(PROGRAM):
-        sys.exit(f"{PROGRAM} isn't there, and `rt run` in {CRATE} didn't build it")
 
 
 def tools():
@@ -114,9 +101,9 @@ def gnu_image(prefix, folder, text):
         return file.read()
 
 
-def run(row, words):
+def printed(row, words):
     """Standard output of the program, which has to end well and say nothing on standard error."""
-    ended = subprocess.run([PROGRAM, *words], stdin=subprocess.DEVNULL, capture_output=True, timeout=SECONDS, check=False)
+    ended = run(words)
     if ended.returncode != 0 or ended.stderr:
         failures.append(f"{row}: `{words[0]}` ended with {ended.returncode} and {ended.stderr!r}")
     return ended.stdout
@@ -126,7 +113,7 @@ def our_image(row, folder, text):
     source, image = (os.path.join(folder, name) for name in ["ours.s", "ours.bin"])
     with open(source, "w", encoding="ascii") as file:
         file.write(text)
-    if run(row, ["asm", source, image]):
+    if printed(row, ["asm", source, image]):
         failures.append(f"{row}: `asm` printed something")
     try:
         with open(image, "rb") as file:
@@ -156,7 +143,7 @@ def main():
     with tempfile.TemporaryDirectory() as folder:
         lines = "".join(line + "\n" for line in drawn_lines())
         image = compare("each form", prefix, folder, lines)
-        listed = run("each form", ["dis", image]).decode("ascii")
+        listed = printed("each form", ["dis", image]).decode("ascii")
         for number, (line, wanted) in enumerate(zip(listed.splitlines(), lines.splitlines()), 1):
             if line != wanted:
                 failures.append(f"each form: line {number} is listed as {line!r}, and not {wanted!r}")
@@ -165,10 +152,7 @@ def main():
         compare("labels", prefix, folder, LABELS)
         with open(EXAMPLE, encoding="ascii") as file:
             compare("the example", prefix, folder, file.read())
-    for failure in failures[:20]:
-        print(failure)
-    print(f"assembler_words: {len(failures)} mismatches")
-    return 1 if failures else 0
+    return told("assembler_words")
 
 
 if __name__ == "__main__":

@@ -1,7 +1,6 @@
 #!/usr/bin/env python3
 """Starts the built program as a process and serves it as its peer, over real Unix sockets.
 
-The program is crates/cosim/out/cosim, where `rt ci` and `rt run` leave it; where it isn't there, `rt run` builds it.
 Every row compares the bytes that the program sent, its status, and what it wrote on standard output and error.
 The script ends with 1 on any mismatch.
 """
@@ -13,9 +12,8 @@ import subprocess
 import sys
 import tempfile
 
-TOP = os.path.dirname(os.path.dirname(os.path.abspath(__file__)))
-CRATE = os.path.join(TOP, "crates", "cosim")
-PROGRAM = os.path.join(CRATE, "out", "cosim")
+from support.program import PROGRAM, built, check, failures, told
+
 SECONDS = 20
 
 # a hello with number 0, version 4.3 and the capabilities 1, 2 and 3
@@ -25,21 +23,6 @@ SYNC = bytes.fromhex("00000006 00000008 00000007 00000000 00000000 0000000000000
 ANSWER = bytes.fromhex("00000006 00000008 00000007 00000002 00000000 00000000000003e8")
 # a header of a command that is reserved
 BAD_HEADER = bytes.fromhex("00000007 ffffffff 00000000 00000000 00000000")
-
-failures = []
-
-
-def check(row, what, got, wanted):
-    if got != wanted:
-        failures.append(f"{row}: {what} is {got!r}, and not {wanted!r}")
-
-
-def built():
-    """Builds the program where no run of the gate left it."""
-    if not os.path.exists(PROGRAM):
-        subprocess.run(["rt", "run"], cwd=CRATE, stdout=subprocess.DEVNULL, stderr=subprocess.DEVNULL, check=False)
-    if not os.path.exists(PROGRAM):
-        sys.exit(f"{PROGRAM} isn't there, and `rt run` in {CRATE} didn't build it")
 
 
 def start(words):
@@ -138,10 +121,7 @@ def main():
     without_peer("no words", [], 1, b"cosim: usage at word 0\n")
     without_peer("a surplus word", ["device", "s", "null", "more"], 1, b"cosim: usage at word 3\n")
     without_peer("a word that isn't UTF-8", ["device", b"s", b"\xff"], 1, b"cosim: usage at word 2\n")
-    for failure in failures:
-        print(failure)
-    print(f"device_process: {len(failures)} mismatches")
-    return 1 if failures else 0
+    return told("device_process")
 
 
 if __name__ == "__main__":

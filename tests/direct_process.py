@@ -1,7 +1,6 @@
 #!/usr/bin/env python3
 """Runs firmware and scripts by the built program, `cosim direct`, as a process on real files.
 
-The program is crates/cosim/out/cosim, where `rt ci` and `rt run` leave it; where it isn't there, `rt run` builds it.
 Every example prints what its file says; every row compares the status, standard output and standard error.
 The script ends with 1 on any mismatch.
 """
@@ -9,15 +8,12 @@ The script ends with 1 on any mismatch.
 import hashlib
 import os
 import shutil
-import subprocess
 import sys
 import tempfile
 
-TOP = os.path.dirname(os.path.dirname(os.path.abspath(__file__)))
-CRATE = os.path.join(TOP, "crates", "cosim")
-PROGRAM = os.path.join(CRATE, "out", "cosim")
+from support.program import TOP, built, check, run, told
+
 EXAMPLES = os.path.join(TOP, "examples")
-SECONDS = 60
 
 # lui x1, 0x10000; addi x2, x0, 65; sw x2, 0(x1); lui x3, 0x100; sw x0, 0(x3); jal x0, 0
 ONE_BYTE = bytes.fromhex("b7000010 13011004 23a02000 b7011000 23a00100 6f000000")
@@ -27,21 +23,6 @@ HALTS = bytes.fromhex("b7001000 13017000 23a02000")
 TRAPS = bytes.fromhex("67002000")
 COPIED = bytes([1, 2, 3, 4])
 SECTOR = bytes(range(256)) * 2
-
-failures = []
-
-
-def check(row, what, got, wanted):
-    if got != wanted:
-        failures.append(f"{row}: {what} is {got!r}, and not {wanted!r}")
-
-
-def built():
-    """Builds the program where no run of the gate left it."""
-    if not os.path.exists(PROGRAM):
-        subprocess.run(["rt", "run"], cwd=CRATE, stdout=subprocess.DEVNULL, stderr=subprocess.DEVNULL, check=False)
-    if not os.path.exists(PROGRAM):
-        sys.exit(f"{PROGRAM} isn't there, and `rt run` in {CRATE} didn't build it")
 
 
 def registers(**values):
@@ -191,16 +172,12 @@ ROWS = {
 }
 
 
-def run(folder, words, out=subprocess.PIPE):
-    return subprocess.run([PROGRAM, *words], cwd=folder, stdin=subprocess.DEVNULL, stdout=out, stderr=subprocess.PIPE, timeout=SECONDS, check=False)
-
-
 def try_row(row, files, status, lines, error):
     with tempfile.TemporaryDirectory() as folder:
         for name, content in files.items():
             with open(os.path.join(folder, name), "wb") as file:
                 file.write(content if isinstance(content, bytes) else content.encode())
-        ended = run(folder, ["direct", "c"])
+        ended = run(["direct", "c"], folder)
         check(row, "the status", ended.returncode, status)
         check(row, "standard output", ended.stdout.decode().splitlines(), lines)
         check(row, "standard error", ended.stderr, error.encode())
@@ -211,9 +188,9 @@ def try_example(name):
     with tempfile.TemporaryDirectory() as folder:
         for file in os.listdir(os.path.join(EXAMPLES, name)):
             shutil.copy(os.path.join(EXAMPLES, name, file), folder)
-        assembled = run(folder, ["asm", f"{name}.s", f"{name}.bin"])
+        assembled = run(["asm", f"{name}.s", f"{name}.bin"], folder)
         check(name, "the status of asm", (assembled.returncode, assembled.stderr), (0, b""))
-        ended = run(folder, ["direct", f"{name}.toml"])
+        ended = run(["direct", f"{name}.toml"], folder)
         with open(os.path.join(folder, f"{name}.out"), encoding="ascii") as file:
             wanted = file.read().splitlines()
         printed = ended.stdout.decode().splitlines()
@@ -232,7 +209,7 @@ def try_full_device():
             file.write(machine("script", 1, 1, script="s"))
         with open(os.path.join(folder, "s"), "w", encoding="ascii") as file:
             file.write("wait 1\n")
-        ended = run(folder, ["direct", "c"], out=full)
+        ended = run(["direct", "c"], folder, out=full)
         check("a full device", "the status", (ended.returncode, ended.stderr), (5, b"cosim: outside: out 1\n"))
 
 
@@ -242,7 +219,4 @@ for row, (files, status, lines, error) in ROWS.items():
 for name in ["hello", "dma_copy", "echo"]:
     try_example(name)
 try_full_device()
-for failure in failures:
-    print(failure)
-print(f"direct_process: {len(failures)} mismatches")
-sys.exit(1 if failures else 0)
+sys.exit(told("direct_process"))

@@ -1,20 +1,15 @@
 #!/usr/bin/env python3
 """Starts the built program as a process for the commands over files, on real files.
 
-The program is crates/cosim/out/cosim, where `rt ci` and `rt run` leave it; where it isn't there, `rt run` builds it.
 Every row compares the status, what was written on standard output and error, and what is in the file that `asm` writes.
 The script ends with 1 on any mismatch.
 """
 
 import os
-import subprocess
 import sys
 import tempfile
 
-TOP = os.path.dirname(os.path.dirname(os.path.abspath(__file__)))
-CRATE = os.path.join(TOP, "crates", "cosim")
-PROGRAM = os.path.join(CRATE, "out", "cosim")
-SECONDS = 20
+from support.program import built, check, run, told
 
 # a hello with number 0, version 4.3 and the capabilities 1, 2 and 3, a sync request with number 7 at tick 1000, and their lines
 HELLO = bytes.fromhex("00000001 00000018 00000000 00000000 00000000 0004 0003 00000020 0003 0000 00000001 00000002 00000003")
@@ -103,25 +98,6 @@ ROWS = [
 # words whose text goes to a full device
 FULL = [["show", "stream"], ["pack", "text"], ["dis", "image"], ["direct", "machine"], ["help"]]
 
-failures = []
-
-
-def check(row, what, got, wanted):
-    if got != wanted:
-        failures.append(f"{row}: {what} is {got!r}, and not {wanted!r}")
-
-
-def built():
-    """Builds the program where no run of the gate left it."""
-    if not os.path.exists(PROGRAM):
-        subprocess.run(["rt", "run"], cwd=CRATE, stdout=subprocess.DEVNULL, stderr=subprocess.DEVNULL, check=False)
-    if not os.path.exists(PROGRAM):
-        sys.exit(f"{PROGRAM} isn't there, and `rt run` in {CRATE} didn't build it")
-
-
-def run(words, folder, out=subprocess.PIPE):
-    return subprocess.run([PROGRAM, *words], cwd=folder, stdin=subprocess.DEVNULL, stdout=out, stderr=subprocess.PIPE, timeout=SECONDS, check=False)
-
 
 def rows(folder):
     for words, status, text, line in ROWS:
@@ -161,10 +137,7 @@ def main():
         rows(folder)
         full(folder)
         help_text(folder)
-    for failure in failures:
-        print(failure)
-    print(f"file_commands: {len(failures)} mismatches")
-    return 1 if failures else 0
+    return told("file_commands")
 
 
 if __name__ == "__main__":
