@@ -287,10 +287,10 @@ module _ {H R L : Type 0} (rs : RelayStar H R L) (monotone : IsRelayMonotone rs)
   bytes_within : sum_below (suc (twice n)) (λ i. sum_below (suc (twice n)) (λ j. length (sent_at final (place i) (place j)))) ≤ relay_bytes n final
   bytes_within =
       let all = sum_places n (λ i. sum_below (suc (twice n)) (λ j. length (sent_at final (place i) (place j)))) in
-      let total : sum_below n (λ p. row (number (AtRelay p)) + row (number (AtLeaf p))) ≤ sum_below n rest_of = sum_le n (λ p. row (number (AtRelay p)) + row (number (AtLeaf p))) rest_of (λ p _. add-le-add (relay_row p) (leaf_row p)) in
+      let total : sum_below n (λ p. all_from (number (AtRelay p)) + all_from (number (AtLeaf p))) ≤ sum_below n rest_of = sum_le n (λ p. all_from (number (AtRelay p)) + all_from (number (AtLeaf p))) rest_of (λ p _. add-le-add (at_relay p) (at_leaf p)) in
       let both : sum_below n (λ p. out p + rest_of p) ≡ sum_below n out + sum_below n rest_of = sum_add n out rest_of in
       let same : sum_below n (λ p. out p + rest_of p) ≡ relay_bytes n final = sum_same n (λ p. out p + rest_of p) (λ p. out p + length (sent_at final (AtRelay p) AtHub) + length (field_of (λ (q : RelayPort R L). q.relay_leaf) [] (slice_get final.ports p)) + length (field_of (λ (q : RelayPort R L). q.leaf_relay) [] (slice_get final.ports p))) (λ p _. (omega arith)) in
-      let first = hub_row in
+      let first = at_hub in
       omega arith
     where
       out : ℕ → ℕ
@@ -299,23 +299,23 @@ module _ {H R L : Type 0} (rs : RelayStar H R L) (monotone : IsRelayMonotone rs)
       rest_of : ℕ → ℕ
       rest_of p = length (sent_at final (AtRelay p) AtHub) + length (field_of (λ (q : RelayPort R L). q.relay_leaf) [] (slice_get final.ports p)) + length (field_of (λ (q : RelayPort R L). q.leaf_relay) [] (slice_get final.ports p))
 
-      row : ℕ → ℕ
-      row i = sum_below (suc (twice n)) (λ j. length (sent_at final (place i) (place j)))
+      all_from : ℕ → ℕ
+      all_from i = sum_below (suc (twice n)) (λ j. length (sent_at final (place i) (place j)))
 
       -- what a place sends, summed by the places that it sends to
-      row_is : (a : Place) → row (number a) ≡ length (sent_at final a AtHub) + sum_below n (λ q. length (sent_at final a (AtRelay q)) + length (sent_at final a (AtLeaf q)))
-      row_is a =
+      all_from_is : (a : Place) → all_from (number a) ≡ length (sent_at final a AtHub) + sum_below n (λ q. length (sent_at final a (AtRelay q)) + length (sent_at final a (AtLeaf q)))
+      all_from_is a =
           sum_places n (λ j. length (sent_at final (place (number a)) (place j)))
           ∙ ap (λ (v : Place). length (sent_at final v AtHub) + sum_below n (λ q. length (sent_at final v (place (number (AtRelay q)))) + length (sent_at final v (place (number (AtLeaf q)))))) (place_number a)
           ∙ ap (λ t. length (sent_at final a AtHub) + t) (sum_same n _ _ (λ q _. ap₂ (λ (u v : Place). length (sent_at final a u) + length (sent_at final a v)) (place_number (AtRelay q)) (place_number (AtLeaf q))))
 
-      hub_row : row 0 ≤ sum_below n out
-      hub_row = let e = row_is AtHub in let s : sum_below n (λ q. out q + 0) ≡ sum_below n out = sum_same n (λ q. out q + 0) out (λ q _. (omega arith)) in omega arith
+      at_hub : all_from 0 ≤ sum_below n out
+      at_hub = let e = all_from_is AtHub in let s : sum_below n (λ q. out q + 0) ≡ sum_below n out = sum_same n (λ q. out q + 0) out (λ q _. (omega arith)) in omega arith
 
-      relay_row : (p : ℕ) → row (number (AtRelay p)) ≤ length (sent_at final (AtRelay p) AtHub) + length (field_of (λ (q : RelayPort R L). q.relay_leaf) [] (slice_get final.ports p))
-      relay_row p =
+      at_relay : (p : ℕ) → all_from (number (AtRelay p)) ≤ length (sent_at final (AtRelay p) AtHub) + length (field_of (λ (q : RelayPort R L). q.relay_leaf) [] (slice_get final.ports p))
+      at_relay p =
           let v : ℕ = length (field_of (λ (q : RelayPort R L). q.relay_leaf) [] (slice_get final.ports p)) in
-          let e = row_is (AtRelay p) in
+          let e = all_from_is (AtRelay p) in
           let s : sum_below n (λ q. 0 + length (sent_at final (AtRelay p) (AtLeaf q))) ≡ sum_below n (λ q. if q == p then v else 0) = sum_same n (λ q. 0 + length (sent_at final (AtRelay p) (AtLeaf q))) (λ q. if q == p then v else 0) (λ q _. zero_add (if_length (q == p) (field_of (λ (q : RelayPort R L). q.relay_leaf) [] (slice_get final.ports p)))) in
           let l = sum_one n p v in
           omega arith
@@ -323,10 +323,10 @@ module _ {H R L : Type 0} (rs : RelayStar H R L) (monotone : IsRelayMonotone rs)
           zero_add : {a b : ℕ} → a ≡ b → 0 + a ≡ b
           zero_add e = omega arith
 
-      leaf_row : (p : ℕ) → row (number (AtLeaf p)) ≤ length (field_of (λ (q : RelayPort R L). q.leaf_relay) [] (slice_get final.ports p))
-      leaf_row p =
+      at_leaf : (p : ℕ) → all_from (number (AtLeaf p)) ≤ length (field_of (λ (q : RelayPort R L). q.leaf_relay) [] (slice_get final.ports p))
+      at_leaf p =
           let v : ℕ = length (field_of (λ (q : RelayPort R L). q.leaf_relay) [] (slice_get final.ports p)) in
-          let e = row_is (AtLeaf p) in
+          let e = all_from_is (AtLeaf p) in
           let s : sum_below n (λ q. length (sent_at final (AtLeaf p) (AtRelay q)) + 0) ≡ sum_below n (λ q. if q == p then v else 0) = sum_same n (λ q. length (sent_at final (AtLeaf p) (AtRelay q)) + 0) (λ q. if q == p then v else 0) (λ q _. add_zero (if_length (q == p) (field_of (λ (q : RelayPort R L). q.leaf_relay) [] (slice_get final.ports p)))) in
           let l = sum_one n p v in
           omega arith
