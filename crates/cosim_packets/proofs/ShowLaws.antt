@@ -1,20 +1,13 @@
 -- How the steps of `show` make up its promise.
-use Rattle.std.proofs.Common.{ℕ, ◌≡◌, List, [], ◌∷◌}
-use Rattle.std.specs.Prelude.{◌==◌, false, length, Result, Ok, Err, OnOk}
-use Rattle.cos_base.specs.declared.sinks.Failed.{Failed}
-use Rattle.cos_base.specs.Counts.{Counts}
-use Rattle.cos_base.specs.Sinks.{Puts}
+use Rattle.std.proofs.Common.{ℕ, List}
+use Rattle.std.specs.Prelude.{Result, Ok, Err, OnOk}
 use Rattle.cos_base.specs.declared.no_memory.NoMemory.{NoMemory}
 use Rattle.cosim_status.specs.declared.status.Status.TheVariants as status
 use Rattle.cosim_status.specs.declared.status.InputFault.{InputFault}
 use Rattle.cosim_status.specs.declared.status.InputFault.TheVariants as input
-use Rattle.cosim_status.specs.Outcomes.{Seen, PrintsBefore, Refuses}
+use Rattle.cosim_status.specs.Outcomes.{Refuses}
 use Rattle.cosim_packets.specs.Shown.{Shown, CutOff, Refused}
 use Rattle.cosim_packets.specs.Listing.{EndsAt}
-
-pub before-put : (k : Seen (List ℕ)) (text : List ℕ) (r : Result Unit Failed) → false ≡ (length text == 0) → Counts k.before k.now r → Puts k.old k.new text r → PrintsBefore k text
-before-put k [] r some counts puts = absurd (cc some)
-before-put k (x ∷ xs) r some counts puts = (r, counts, puts)
 
 pub on-ok : (P Q : Type 0) (r : Result Unit NoMemory) → (P → Q) → OnOk r P → OnOk r Q
 on-ok P Q (Ok u) f is = f is

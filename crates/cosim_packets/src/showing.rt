@@ -1,11 +1,11 @@
 // The command `show`.
-ghost use Rattle.std.specs.Prelude.{◌≤◌, []};
-ghost use Rattle.cosim_status.specs.Outcomes.{seen, OfFile, Blames, Ends, MeetsOne, MeetsEach, PrintsBefore};
+ghost use Rattle.std.specs.Prelude.{[]};
+ghost use Rattle.cosim_status.specs.Outcomes.{seen, OfFile, Blames, Ends, MeetsOne, MeetsEach};
 ghost use Rattle.cosim_packets.specs.Shown.{Shown};
 
 use crate::listing::{ListFault, list};
 use cos_base::{Files, Octets, Sink};
-use cosim_status::{Status, put_text, read_file};
+use cosim_status::{Status, put_before, put_text, read_file};
 use std::alloc::Global;
 
 /// Prints one line for each packet of a stream in a file, with the word `loose` where its spelling isn't the canonical one. A
@@ -30,15 +30,5 @@ pub fn show<F: Files, K: Sink>(alloc: Global, name: &str, files: &mut F, out: &m
             Status::Input(fault)
         }
         Err(ListFault::NoMemory) => Status::NoMemory,
-    }
-}
-
-/// Prints the text before a refusal, where there is any. A failure changes nothing.
-fn put_before<K: Sink>(out: &mut K, text: &[u8])
-    ensures before { PrintsBefore (seen K.count K.told out.old out.new) text.now }
-    ensures counts { K.count out.old ≤ K.count out.new }
-{
-    if !text.is_empty() {
-        let _ = out.put(text);
     }
 }

@@ -2,6 +2,7 @@ use Rattle.std.proofs.Common.{[], refl}
 use Rattle.cosim_status.specs.declared.status.Status.TheVariants as status
 use Rattle.cosim_status.specs.Outcomes.{Refuses}
 use Rattle.cosim_status.proofs.Commands.{comes-read, comes-lacking, one-of-file, meets-each, unread-meets, printed-ends, printed-meets}
+use Rattle.cosim_status.proofs.Refusing.{refused-blames}
 use Rattle.cosim_packets.specs.Shown.{Shown, Whole}
 use Rattle.cosim_packets.specs.ListLaws.{one-shown}
 use Rattle.cosim_packets.proofs.ShowLaws.{refused-shown}
@@ -30,6 +31,9 @@ pub returns-in-Ok-list-clause-complete : goal.returns-in-Ok-list-clause-complete
 returns-in-Ok-list-clause-complete g c = λ files out.
     meets-each _ _ _ (one-of-file c.args.name.now Shown _ (g.met.F.Files.sound_tells c.args.files.now files) one-shown) (returns-in-Ok-list-clause-sound g c files out)
 
+pub returns-in-Err-Refused-clause-blames : goal.returns-in-Err-Refused-clause-blames
+returns-in-Err-Refused-clause-blames g c = refused-blames _ _ _ _ c.in-Err-Refused.fault c.in-Ok.ensures.ok.stands.count c.put_before.ensures
+
 pub returns-in-Err-Refused-clause-ends : goal.returns-in-Err-Refused-clause-ends
 returns-in-Err-Refused-clause-ends g c =
     let lists = rw c.in-Err-Refused.field-0-is at c.in-Err-Refused.ensures in
@@ -37,7 +41,7 @@ returns-in-Err-Refused-clause-ends g c =
       c.list.new.text.bytes,
       comes-read c.args.name.now Shown _ _ _ c.in-Ok.ensures.ok (refused-shown _ _ c.in-Err-Refused.fault ends),
       c.in-Ok.ensures.ok.stands.told,
-      rw c.as_slice-in-Err-Refused.ensures at c.put_before.ensures.before,
+      rw c.as_slice-in-Err-Refused.ensures at c.put_before.ensures,
     )
 
 pub returns-in-Err-Refused-clause-sound : goal.returns-in-Err-Refused-clause-sound
