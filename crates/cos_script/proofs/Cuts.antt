@@ -5,7 +5,7 @@ use Rattle.std.proofs.lemmas.List.Splits.{slice_split-cons_yes, slice_split-cons
 use Rattle.std.proofs.lemmas.Bool.{ne_eqb, eq-eqb}
 use Rattle.std.specs.Str.{bytes_eq}
 use Rattle.std.specs.Prelude.{codes}
-use Rattle.cos_script.specs.Numbers.{number}
+use Rattle.cos_text.specs.Numbers.{number}
 use Rattle.cos_script.specs.Scripts.{parts, words, both, numbers, read_step, write_step, wait_step, named_step}
 
 -- up to a place none is the byte, which stands there

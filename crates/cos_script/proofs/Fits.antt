@@ -6,7 +6,8 @@ use Rattle.std.proofs.lemmas.List.Elements.{All-append}
 use Rattle.cos_script.specs.declared.step.ScriptStep.{ScriptStep}
 use Rattle.cos_script.specs.declared.step.ScriptStep.TheVariants.{Read, Write, Wait}
 use Rattle.cos_script.specs.Steps.{fits, is_wait}
-use Rattle.cos_script.specs.Scripts.{parts, words, numbers, fitting, read_step, write_step, wait_step, named_step, step_of, one_step, line_steps, before_steps, with_line, lines_steps, script_of}
+use Rattle.cos_text.specs.Lines.{lines}
+use Rattle.cos_script.specs.Scripts.{words, numbers, fitting, read_step, write_step, wait_step, named_step, step_of, one_step, line_steps, before_steps, with_line, lines_steps, script_of}
 use Rattle.cos_script.specs.Masters.{HaveFit}
 
 test-fits : (ports : ℕ) (step s : ScriptStep) (b : Bool) → fits ports step ≡ b → (if b then Some step else None) ≡ Some s → fits ports s ≡ true
@@ -61,9 +62,9 @@ line-fits ports (c ∷ cs) steps e = by (c == 35) e
     by true f = (let same : [] ≡ steps = cc in subst (λ xs. HaveFit ports xs) same (none-fit ports))
     by false f = read (step_of ports (words (c ∷ cs))) refl f
 
-lines-fit : (ports number : ℕ) (lines : List (List ℕ)) (steps : List ScriptStep) → lines_steps ports number lines ≡ Ok steps → HaveFit ports steps
+lines-fit : (ports number : ℕ) (ls : List (List ℕ)) (steps : List ScriptStep) → lines_steps ports number ls ≡ Ok steps → HaveFit ports steps
 lines-fit ports number [] steps e = (let same : [] ≡ steps = cc in subst (λ xs. HaveFit ports xs) same (none-fit ports))
-lines-fit ports number (line ∷ lines) steps e = by (line_steps ports line) (lines_steps ports (suc number) lines) (line-fits ports line) (lines-fit ports (suc number) lines) e
+lines-fit ports number (line ∷ ls) steps e = by (line_steps ports line) (lines_steps ports (suc number) ls) (line-fits ports line) (lines-fit ports (suc number) ls) e
   where
     by : (o : Option (List ScriptStep)) (r : Result (List ScriptStep) ℕ) → ((xs : List ScriptStep) → o ≡ Some xs → HaveFit ports xs) → ((xs : List ScriptStep) → r ≡ Ok xs → HaveFit ports xs) → with_line number o r ≡ Ok steps → HaveFit ports steps
     by None r here more f = absurd (cc)
@@ -71,7 +72,7 @@ lines-fit ports number (line ∷ lines) steps e = by (line_steps ports line) (li
     by (Some xs) (Ok ys) here more f = (let same : xs ++ ys ≡ steps = cc in subst (λ zs. HaveFit ports zs) same (All-append (λ s. fits ports s ≡ true) xs ys (here xs refl) (more ys refl)))
 
 pub script-fits : (ports : ℕ) (text : List ℕ) (steps : List ScriptStep) → script_of ports text ≡ Ok steps → HaveFit ports steps
-script-fits ports text steps e = lines-fit ports 1 (parts 10 text) steps e
+script-fits ports text steps e = lines-fit ports 1 (lines text) steps e
 
 -- Steps before steps, and a line more.
 
@@ -79,12 +80,13 @@ both-before : (xs ys : List ScriptStep) (r : Result (List ScriptStep) ℕ) → b
 both-before xs ys (Ok zs) = ap Ok (sym (append_assoc xs ys zs))
 both-before xs ys (Err n) = refl
 
-pub line-more : (ports passed : ℕ) (line rest after : List ℕ) (old new more : List ScriptStep) → lines_steps ports (suc passed) (parts 10 rest) ≡ with_line (suc passed) (line_steps ports line) (lines_steps ports (suc (suc passed)) (parts 10 after)) → line_steps ports line ≡ Some more → new ≡ old ++ more → before_steps old (lines_steps ports (suc passed) (parts 10 rest)) ≡ before_steps new (lines_steps ports (suc (passed + 1)) (parts 10 after))
-line-more ports passed line rest after old new more lines is e =
-    ap (before_steps old) (lines ∙ ap (λ o. with_line (suc passed) o (lines_steps ports (suc (suc passed)) (parts 10 after))) is)
-    ∙ both-before old more (lines_steps ports (suc (suc passed)) (parts 10 after))
-    ∙ ap (λ xs. before_steps xs (lines_steps ports (suc (suc passed)) (parts 10 after))) (sym e)
-    ∙ ap (λ n. before_steps new (lines_steps ports (suc n) (parts 10 after))) one
+pub line-more : (ports passed : ℕ) (line rest after : List ℕ) (old new more : List ScriptStep) → lines rest ≡ line ∷ lines after → line_steps ports line ≡ Some more → new ≡ old ++ more → before_steps old (lines_steps ports (suc passed) (lines rest)) ≡ before_steps new (lines_steps ports (suc (passed + 1)) (lines after))
+line-more ports passed line rest after old new more first is e =
+    ap (λ ls. before_steps old (lines_steps ports (suc passed) ls)) first
+    ∙ ap (λ o. before_steps old (with_line (suc passed) o (lines_steps ports (suc (suc passed)) (lines after)))) is
+    ∙ both-before old more (lines_steps ports (suc (suc passed)) (lines after))
+    ∙ ap (λ xs. before_steps xs (lines_steps ports (suc (suc passed)) (lines after))) (sym e)
+    ∙ ap (λ n. before_steps new (lines_steps ports (suc n) (lines after))) one
   where
     one : suc passed ≡ passed + 1
     one = omega arith

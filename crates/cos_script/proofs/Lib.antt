@@ -1,4 +1,3 @@
-pub mod Digits
 pub mod Cuts
 pub mod Fits
 pub mod Stops

@@ -7,7 +7,8 @@ use Rattle.cos_script.specs.declared.fault.ScriptFault.{ScriptFault}
 use Rattle.cos_script.specs.declared.fault.ScriptFault.TheVariants.{Line, NoMemory}
 use Rattle.cos_script.specs.declared.step.ScriptStep.{ScriptStep}
 use Rattle.cos_script.specs.declared.step.ScriptStep.TheVariants.{Read, Write, Wait}
-use Rattle.cos_script.specs.Numbers.{number}
+use Rattle.cos_text.specs.Numbers.{number}
+use Rattle.cos_text.specs.Lines.{lines}
 use Rattle.cos_script.specs.Steps.{fits, is_wait}
 
 -- The parts round each byte of that value.
@@ -82,11 +83,11 @@ with_line number (Some steps) rest = before_steps steps rest
 
 abbrev pub lines_steps : ℕ → ℕ → List (List ℕ) → Result (List ScriptStep) ℕ
 lines_steps ports number [] = Ok []
-lines_steps ports number (line ∷ lines) = with_line number (line_steps ports line) (lines_steps ports (suc number) lines)
+lines_steps ports number (line ∷ more) = with_line number (line_steps ports line) (lines_steps ports (suc number) more)
 
--- The lines of a text are separated by line feeds, and counted from 1.
+-- The lines of a text are counted from 1.
 abbrev pub script_of : ℕ → List ℕ → Result (List ScriptStep) ℕ
-script_of ports text = lines_steps ports 1 (parts 10 text)
+script_of ports text = lines_steps ports 1 (lines text)
 
 -- What reading a script answers.
 abbrev pub ReadsInto : ℕ → List ℕ → Result (Vec ScriptStep) ScriptFault → Type 0

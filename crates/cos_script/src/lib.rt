@@ -4,7 +4,6 @@
 mod fault;
 mod lines;
 mod master;
-mod numbers;
 mod step;
 #[cfg(test)]
 mod tests;

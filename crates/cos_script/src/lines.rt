@@ -1,11 +1,12 @@
 // The lines of a script.
-ghost use Rattle.std.specs.Prelude.{◌≡◌, ◌≤◌, ◌<◌, ◌^◌, ◌+◌, ℕ, suc, true, nat_lt, length, option_map, option_to_list};
+ghost use Rattle.std.specs.Prelude.{◌≡◌, ◌^◌, true, nat_lt, option_map, option_to_list};
 ghost use Rattle.cos_script.specs.Steps.{is_size};
 ghost use Rattle.cos_script.specs.Scripts as scripts;
 
 use crate::ScriptFault;
 use crate::step::ScriptStep;
 use crate::words::{cut, four, one, three};
+use cos_text::first_line;
 use std::alloc::Global;
 
 /// The most units that one line waits.
@@ -130,19 +131,6 @@ fn add(steps: &mut Vec<ScriptStep>, line: &[u8], number: u64, ports: u32) -> Res
             Ok(()) => Ok(()),
             Err(_) => Err(ScriptFault::NoMemory),
         },
-    }
-}
-
-/// The first line of a text that isn't empty, and the text after it.
-fn first_line(text: &[u8]) -> (&[u8], &[u8])
-    requires { 1 ≤ length text.now }
-    ensures lines { (ports number : ℕ) → scripts.lines_steps ports number (scripts.parts 10 text.now) ≡ scripts.with_line number (scripts.line_steps ports result.0.now) (scripts.lines_steps ports (suc number) (scripts.parts 10 result.1.now)) }
-    ensures shorter { length result.1.now + 1 ≤ length text.now }
-{
-    let (line, rest) = cut(text, b'\n');
-    match rest {
-        Some(rest) => (line, rest),
-        None => (line, &[]),
     }
 }
 

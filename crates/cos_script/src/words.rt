@@ -2,7 +2,7 @@
 ghost use Rattle.std.specs.Prelude.{◌≡◌, ◌+◌, ◌≤◌, [], ◌∷◌, length, MatchOption, option_copied, option_map};
 ghost use Rattle.cos_script.specs.Scripts.{parts, words, numbers};
 
-use crate::numbers::number;
+use cos_text::read_number;
 
 /// What stands before the first byte of this value, and what stands after it.
 pub fn cut(text: &[u8], value: u8) -> (&[u8], Option<&[u8]>)
@@ -23,7 +23,7 @@ pub fn one(text: &[u8]) -> Option<u64>
 {
     let (word, rest) = cut(text, b' ');
     match rest {
-        None => number(word),
+        None => read_number(word),
         Some(_) => None,
     }
 }
@@ -34,7 +34,7 @@ fn two(text: &[u8]) -> Option<(u64, u64)>
 {
     let (word, rest) = cut(text, b' ');
     let rest = rest?;
-    let first = number(word)?;
+    let first = read_number(word)?;
     let second = one(rest)?;
     Some((first, second))
 }
@@ -45,7 +45,7 @@ pub fn three(text: &[u8]) -> Option<(u64, u64, u64)>
 {
     let (word, rest) = cut(text, b' ');
     let rest = rest?;
-    let first = number(word)?;
+    let first = read_number(word)?;
     let (second, third) = two(rest)?;
     Some((first, second, third))
 }
@@ -56,7 +56,7 @@ pub fn four(text: &[u8]) -> Option<(u64, u64, u64, u64)>
 {
     let (word, rest) = cut(text, b' ');
     let rest = rest?;
-    let first = number(word)?;
+    let first = read_number(word)?;
     let (second, third, fourth) = three(rest)?;
     Some((first, second, third, fourth))
 }

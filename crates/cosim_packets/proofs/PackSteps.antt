@@ -2,7 +2,7 @@
 use Rattle.std.proofs.Common.{ℕ, ◌≡◌, List, [], ◌∷◌, length, refl, arith}
 use Rattle.std.specs.Prelude.{Result, Ok, Err}
 use Rattle.std.specs.Str.{IsUtf8}
-use Rattle.rv_asm.specs.Texts.{lines}
+use Rattle.cos_text.specs.Lines.{lines}
 use Rattle.cosim_packets.specs.declared.packing.PackFault.{PackFault}
 use Rattle.cosim_packets.specs.declared.packing.PackFault.TheVariants.{Line, NoMemory}
 use Rattle.cosim_packets.specs.Packed.{AllLines, FirstRefused}

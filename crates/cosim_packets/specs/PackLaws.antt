@@ -6,7 +6,7 @@ use Rattle.cosim_model.specs.Packets.{Packet}
 use Rattle.rp_packet.specs.Spelling.{packet_bytes}
 use Rattle.rp_text.specs.Texts.{packet_text, IsPackable}
 use Rattle.rp_text.proofs.Unique.{one-line}
-use Rattle.rv_asm.specs.Texts.{lines}
+use Rattle.cos_text.specs.Lines.{lines}
 use Rattle.cosim_status.specs.declared.status.Status.TheVariants as status
 use Rattle.cosim_status.specs.declared.status.InputFault.TheVariants as input
 use Rattle.cosim_status.specs.Outcomes.{Outcome, Refuses, Prints}

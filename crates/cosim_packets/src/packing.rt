@@ -1,11 +1,12 @@
 // The packets of a text, one packet a line.
-ghost use Rattle.std.specs.Prelude.{◌≡◌, ◌+◌, ◌≤◌, ◌∷◌, [], length, option_copied};
+ghost use Rattle.std.specs.Prelude.{◌≡◌, []};
 ghost use Rattle.cosim_status.specs.Outcomes.{seen, OfFile, Blames, Ends, MeetsOne, MeetsEach};
-ghost use Rattle.rv_asm.specs.Texts.{lines, before, after};
+ghost use Rattle.cos_text.specs.Lines.{lines};
 ghost use Rattle.cosim_packets.specs.Packed.{Packed};
 ghost use Rattle.cosim_packets.specs.Packing.{PacksLine, PacksLines, PacksText};
 
 use cos_base::{Files, Octets, Sink};
+use cos_text::first_line;
 use cosim_status::{InputFault, Status, put_text, read_file};
 use rp_text::{LineFault, read_line};
 use std::alloc::Global;
@@ -82,30 +83,4 @@ fn pack_line(alloc: Global, line: &[u8], out: &mut Octets) -> Result<(), LineFau
         },
         Err(fault) => Err(fault),
     }
-}
-
-/// The first line of a text that isn't empty, and the rest of the text.
-fn first_line(text: &[u8]) -> (&[u8], &[u8])
-    requires { 1 ≤ length text.now }
-    ensures lines { lines text.now ≡ result.0.now ∷ lines result.1.now }
-    ensures shorter { length result.1.now + 1 ≤ length text.now }
-{
-    let (line, rest) = cut(text);
-    match rest {
-        Some(rest) => (line, rest),
-        None => (line, &[]),
-    }
-}
-
-/// What stands before the first line feed, and what stands behind it.
-fn cut(text: &[u8]) -> (&[u8], Option<&[u8]>)
-    ensures front { result.0.now ≡ before 10 text.now }
-    ensures back { option_copied result.1 ≡ after 10 text.now }
-{
-    for i in 0..text.len() {
-        if text[i] == b'\n' {
-            return (&text[..i], Some(&text[i + 1..]));
-        }
-    }
-    (text, None)
 }

@@ -5,7 +5,8 @@ use Rattle.cosim_model.specs.Packets.Body.{Nop, Hello, Cfg, Read, Write, Interru
 use Rattle.cosim_model.specs.declared.session.Command.TheVariants as command
 use Rattle.rp_packet.specs.declared.packet.Tag.{Tag}
 use Rattle.rp_packet.specs.Spelling.{BodyFits}
-use Rattle.rp_text.specs.Texts.{hex_text, bytes_text, spaced, body_words, HoldsBytes}
+use Rattle.cos_text.specs.Numbers.{hex_text}
+use Rattle.rp_text.specs.Texts.{bytes_text, spaced, body_words, HoldsBytes}
 use Rattle.rp_text.specs.Reading.{TakesNumber, TakesHex, TakesBytes, TakesTag, TakesCaps, TakesBus, TakesBody}
 
 abbrev tag-of : ℕ → ℕ → ℕ → Tag

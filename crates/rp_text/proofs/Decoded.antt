@@ -10,7 +10,7 @@ use Rattle.rp_header.specs.Numbers.{AreBytes}
 use Rattle.rp_text.specs.Texts.{bytes_text}
 use Rattle.rp_text.specs.Words.{no_blank}
 use Rattle.rp_text.proofs.Digits.{no_blank-cons}
-use Rattle.rp_text.proofs.Puts.{encode-append}
+use Rattle.cos_text.proofs.Puts.{encode-append}
 
 length-digits : (bs : List ℕ) → length (encode_lower bs) ≡ 2 * length bs
 length-digits bs = length-encode_with lower_digits bs

@@ -1,4 +1,3 @@
-pub mod Hexadecimal
 pub mod Puts
 pub mod Digits
 pub mod Cuts

@@ -1,7 +1,8 @@
 -- What was taken of a line.
 use Rattle.std.proofs.Common.{◌≡◌, ℕ, ◌^◌, ◌<◌, ◌≤◌, List, [], ◌∷◌, ◌++◌, drop, decimal, Option, Some, None, sym, ap, ◌∙◌, arith}
 use Rattle.std.specs.Prelude.{unwrap_or}
-use Rattle.rp_text.specs.Texts.{hex_text, bytes_text, spaced}
+use Rattle.cos_text.specs.Numbers.{hex_text}
+use Rattle.rp_text.specs.Texts.{bytes_text, spaced}
 use Rattle.rp_text.specs.Words.{first_word, rest_of_words}
 use Rattle.rp_text.specs.Reading.{TakesWord, TakesNumber, TakesHex, TakesBytes}
 use Rattle.rp_header.specs.Numbers.{AreBytes}

@@ -11,11 +11,13 @@ use Rattle.rp_control.specs.Controls.{AreWords}
 use Rattle.rp_header.specs.Numbers.{AreBytes}
 use Rattle.rp_packet.specs.Spelling.{BusFits, BodyFits}
 use Rattle.rp_packet.specs.declared.packet.Tag.{Tag}
-use Rattle.rp_text.specs.Texts.{hex_text, bytes_text, name_of, spaced, bus_words, body_words, packet_text, HoldsBytes, IsPackable}
+use Rattle.cos_text.specs.Numbers.{hex_text}
+use Rattle.rp_text.specs.Texts.{bytes_text, name_of, spaced, bus_words, body_words, packet_text, HoldsBytes, IsPackable}
 use Rattle.rp_text.specs.Words.{no_blank, left}
 use Rattle.rp_text.specs.Reading.{TakesWord, TakesNumber, TakesHex, TakesBytes, TakesTag, TakesCaps, TakesBus, TakesBody}
 use Rattle.rp_text.proofs.Cuts.{cut-word, cut-of}
-use Rattle.rp_text.proofs.Digits.{no_blank-decimal, no_blank-hex, is-hex}
+use Rattle.rp_text.proofs.Digits.{no_blank-decimal, no_blank-hex}
+use Rattle.cos_text.proofs.Digits.{is-hex}
 use Rattle.rp_text.proofs.Decoded.{no_blank-bytes, no-bytes}
 use Rattle.rp_text.proofs.Takes.{takes-word, takes-number, takes-hex, takes-bytes, some-same}
 use Rattle.rp_text.proofs.Caps.{words-tail}

@@ -6,7 +6,8 @@ use Rattle.rp_control.specs.Controls.{AreWords}
 use Rattle.rp_header.specs.Numbers.{AreBytes}
 use Rattle.rp_packet.specs.declared.packet.Tag.{Tag}
 use Rattle.rp_packet.specs.Spelling.{BusFits, BodyFits}
-use Rattle.rp_text.specs.Texts.{hex_text, bytes_text, spaced, bus_words, body_words, HoldsBytes}
+use Rattle.cos_text.specs.Numbers.{hex_text}
+use Rattle.rp_text.specs.Texts.{bytes_text, spaced, bus_words, body_words, HoldsBytes}
 use Rattle.rp_text.specs.Words.{no_blank}
 
 -- Some word was taken, or nothing is left.

@@ -1,17 +1,13 @@
 -- The line of a packet: the name of its command and the words of its fields, separated by one blank each.
-use Rattle.std.specs.Prelude.{ℕ, Bool, false, List, [], ◌∷◌, ◌++◌, map, codes, decimal, if◌then◌else◌}
-use Rattle.std.specs.Fmt.{digits}
+use Rattle.std.specs.Prelude.{ℕ, Bool, List, [], ◌∷◌, ◌++◌, map, codes, decimal, if◌then◌else◌}
 use Rattle.hex.specs.Hex.{encode_lower}
+use Rattle.cos_text.specs.Numbers.{hex_text}
 use Rattle.cosim_model.specs.Packets.{Packet, Body, BusFields, command_of}
 use Rattle.cosim_model.specs.Packets.Body.{Nop, Hello, Cfg, Read, Write, Interrupt, Sync}
 use Rattle.cosim_model.specs.declared.session.Command.{Command}
 use Rattle.cosim_model.specs.declared.session.Command.TheVariants as command
 use Rattle.rp_header.specs.Numbers.{AreBytes}
 use Rattle.rp_packet.specs.Spelling.{Fits, Writable}
-
--- a number in hexadecimal: 0x, and digits in lower case without leading zeros
-abbrev pub hex_text : ℕ → List ℕ
-hex_text n = codes "0x" ++ digits 16 false n
 
 -- bytes: two digits each, or a minus sign where there are none
 abbrev pub bytes_text : List ℕ → List ℕ

@@ -8,8 +8,8 @@ ghost use Rattle.rp_text.specs.Texts.{bytes_text};
 ghost use Rattle.rp_text.specs.declared.fault.LineFault.TheVariants.{NoMemory as WantOfMemory};
 
 use crate::fault::LineFault;
-use crate::words_out::encode;
 use cos_base::Octets;
+use cos_text::encode;
 use std::alloc::Global;
 
 /// How many bytes are decoded at a time.

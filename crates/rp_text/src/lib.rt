@@ -17,9 +17,7 @@
 
 mod decoding;
 mod fault;
-mod hex_text;
 mod laws;
-mod numerals;
 mod printing;
 mod reading;
 #[cfg(test)]

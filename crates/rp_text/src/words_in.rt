@@ -5,8 +5,8 @@ ghost use Rattle.rp_text.specs.Words.{first_word, rest_of_words, left};
 
 use crate::decoding::read_bytes;
 use crate::fault::LineFault;
-use crate::numerals::{read_decimal, read_hex};
 use cos_base::{NoMemory, Numbers, Octets};
+use cos_text::{read_decimal, read_hexadecimal};
 use std::alloc::Global;
 use std::marker::Model;
 
@@ -120,7 +120,7 @@ impl<'a> Words<'a> {
         let Some(word) = self.take() else {
             return 0;
         };
-        match read_hex(word) {
+        match read_hexadecimal(word) {
             Some(number) => number,
             None => {
                 self.rest = None;

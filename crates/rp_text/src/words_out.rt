@@ -1,18 +1,15 @@
 //! Words as they are put into the room that there is, each behind a blank.
 
 ghost use Rattle.std.specs.Prelude.{◌≡◌, ◌+◌, ◌*◌, ◌≤◌, ◌++◌, ◌∷◌, [], length, decimal, map};
-ghost use Rattle.hex.specs.Hex.{encode_lower};
 ghost use Rattle.rp_busaccess.specs.Bits.{fields_of};
-ghost use Rattle.rp_text.specs.Texts.{hex_text, bytes_text, spaced, bus_words};
+ghost use Rattle.cos_text.specs.Numbers.{hex_text};
+ghost use Rattle.rp_text.specs.Texts.{bytes_text, spaced, bus_words};
 ghost use Rattle.rp_text.specs.Rooms.{hello_room, bus_room};
 
-use crate::hex_text::HexText;
 use cos_base::Octets;
+use cos_text::{push_bytes, push_hexadecimal};
 use itoa::Buffer;
 use rp_packet::{BusAccess, Cfg, Hello, Interrupt};
-
-/// How many bytes are encoded at a time.
-const CHUNK: usize = 64;
 
 /// Puts a number.
 pub fn put_decimal(out: &mut Octets, number: u64)
@@ -31,8 +28,8 @@ fn put_hex(out: &mut Octets, number: u64)
     ensures bytes { out.new.bytes ≡ out.old.bytes ++ 32 ∷ hex_text number }
     ensures spare { out.old.spare ≤ out.new.spare + 19 }
 {
-    out.push_spare(b" ");
-    out.push_spare(HexText::of(number).as_slice());
+    out.push_spare(b" 0x");
+    push_hexadecimal(out, number);
 }
 
 /// Puts bytes, or a minus sign where there are none.
@@ -44,35 +41,7 @@ fn put_bytes(out: &mut Octets, bytes: &[u8])
     out.push_spare(b" ");
     match bytes {
         [] => out.push_spare(b"-"),
-        _ => put_digits(out, bytes),
-    }
-}
-
-/// Puts two digits for each byte.
-fn put_digits(out: &mut Octets, bytes: &[u8])
-    requires { 2 * length bytes.now ≤ out.old.spare }
-    ensures bytes { out.new.bytes ≡ out.old.bytes ++ encode_lower bytes.now }
-    ensures spare { out.new.spare + 2 * length bytes.now ≡ out.old.spare }
-{
-    let mut text = [0; 2 * CHUNK];
-    let mut rest = bytes;
-    while !rest.is_empty() {
-        let (chunk, more) = rest.split_at(rest.len().min(CHUNK));
-        let digits = &mut text[..2 * chunk.len()];
-        encode(chunk, digits);
-        out.push_spare(digits);
-        rest = more;
-    }
-}
-
-/// Writes two digits for each byte.
-pub fn encode(bytes: &[u8], digits: &mut [u8])
-    requires { length digits.old ≡ 2 * length bytes.now }
-    ensures { digits.new ≡ encode_lower bytes.now }
-{
-    match hex::encode_to_slice(bytes, digits) {
-        Ok(()) => {}
-        Err(_) => unreachable!(),
+        _ => push_bytes(out, bytes),
     }
 }
 

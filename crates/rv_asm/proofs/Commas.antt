@@ -2,7 +2,8 @@
 use Rattle.std.proofs.Common.{◌≡◌, ℕ, ◌+◌, ◌-◌, ◌<◌, ◌==◌, zero, suc, Bool, true, false, List, [], ◌∷◌, Option, Some, None, length, drop, get_or, cond, refl, ap, sym, ◌∙◌, arith}
 use Rattle.std.specs.List.{slice_get}
 use Rattle.std.proofs.lemmas.List.{at_drop_more}
-use Rattle.rv_asm.specs.Texts.{between_commas, begun_with, before, after}
+use Rattle.cos_text.specs.Lines.{begun_with, before, after}
+use Rattle.rv_asm.specs.Texts.{between_commas}
 
 abbrev pub others : Option (List ℕ) → List (List ℕ)
 others None = []

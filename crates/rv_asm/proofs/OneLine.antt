@@ -2,7 +2,8 @@
 use Rattle.std.proofs.Common.{◌≡◌, ℕ, true, List, [], ◌∷◌, ◌++◌, map, Option, Some, None, Result, Ok, refl, ap, sym, subst, ◌∙◌}
 use Rattle.std.proofs.lemmas.List.{append-nil}
 use Rattle.rv_asm.specs.declared.fault.Cause.{Cause}
-use Rattle.rv_asm.specs.Texts.{before, after, trim, between_commas, operands_in, rest_of_words}
+use Rattle.cos_text.specs.Lines.{before, after}
+use Rattle.rv_asm.specs.Texts.{trim, between_commas, operands_in, rest_of_words}
 use Rattle.rv_asm.specs.Programs.{Placed, placed, placed_from, program, content, label_before, statement_after}
 use Rattle.rv_asm.specs.Readings.{◌>>=◌}
 use Rattle.rv_asm.specs.Statements.{Assembled, Assembles, word_of_parts, word_of_statement, word_of_line}

@@ -5,7 +5,7 @@ use Rattle.std.proofs.lemmas.Bool.{cond-true, cond-false, ne_eqb, eq-eqb, eqb-tr
 use Rattle.rv_asm.specs.declared.fault.Cause.TheVariants.{Range}
 use Rattle.rv_asm.specs.declared.numbers.Number.{Number}
 use Rattle.rv_asm.specs.declared.numbers.Number.TheVariants.{Plus, Minus}
-use Rattle.rv_asm.specs.Texts.{after}
+use Rattle.cos_text.specs.Lines.{after}
 use Rattle.rv_asm.specs.Numbers.{ranged, plain}
 use Rattle.rv_asm.specs.Programs.{Placed}
 use Rattle.rv_asm.specs.Csrs.{csrs, csr_number, name_among, number_among}

@@ -2,8 +2,9 @@
 use Rattle.std.proofs.Common.{◌≡◌, ℕ, ◌≤◌, ◌==◌, ◌&&◌, Bool, true, false, List, [], ◌∷◌, ◌++◌, Some, None, nat_le, not, length, refl, ap, ◌∙◌, arith}
 use Rattle.std.proofs.lemmas.Bool.{and_parts, and_from, not-true, cond-true, cond-false, eq-eqb}
 use Rattle.std.proofs.lemmas.Bool.Decides.{nat_tests}
-use Rattle.rv_asm.specs.Texts.{lines, before, after, is_blank, first_word, rest_of_words, trim, trim_start, trim_end, onto_trimmed}
-use Rattle.rv_asm.proofs.LineSteps.{lines-with}
+use Rattle.cos_text.specs.Lines.{lines, before, after}
+use Rattle.rv_asm.specs.Texts.{is_blank, first_word, rest_of_words, trim, trim_start, trim_end, onto_trimmed}
+use Rattle.cos_text.proofs.LineSteps.{lines-with}
 
 abbrev pub all_are : (ℕ → Bool) → List ℕ → Bool
 all_are p [] = true

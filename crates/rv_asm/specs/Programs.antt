@@ -1,7 +1,8 @@
 -- Programs: the lines of a text with their numbers and addresses, and where a label stands.
 use Rattle.std.specs.Prelude.{ℕ, ◌+◌, List, [], ◌∷◌, Option, Some, None, cond}
 use Rattle.std.specs.Str.{bytes_eq}
-use Rattle.rv_asm.specs.Texts.{lines, before, after, trim, is_name}
+use Rattle.cos_text.specs.Lines.{lines, before, after}
+use Rattle.rv_asm.specs.Texts.{trim, is_name}
 
 -- a line: its number, counted from 1, the address of what it assembles to, and its parts
 pub record Placed : Type 0 where

@@ -4,7 +4,8 @@ use Rattle.rv_asm.specs.declared.fault.Cause.{Cause}
 use Rattle.rv_asm.specs.declared.fault.Cause.TheVariants.{Syntax, Name, Range}
 use Rattle.rv_asm.specs.declared.numbers.Number.{Number}
 use Rattle.rv_asm.specs.declared.numbers.Number.TheVariants.{Plus, Minus}
-use Rattle.rv_asm.specs.Texts.{before, after, is_name}
+use Rattle.cos_text.specs.Lines.{before, after}
+use Rattle.rv_asm.specs.Texts.{is_name}
 use Rattle.rv_asm.specs.Numbers.{number, decimal_numeral, ranged, plain}
 use Rattle.rv_asm.specs.Programs.{Placed, first_with}
 use Rattle.rv_asm.specs.Csrs.{csr_number}

@@ -2,7 +2,7 @@
 use Rattle.std.specs.Prelude.{◌+◌, List, option_copied}
 use Rattle.rv_asm.specs.declared.lines.Line.{Line}
 use Rattle.rv_asm.specs.declared.lines.Lines.{Lines}
-use Rattle.rv_asm.specs.Texts.{lines}
+use Rattle.cos_text.specs.Lines.{lines}
 use Rattle.rv_asm.specs.Programs.{Placed, placed_from}
 
 abbrev pub seen : Line → Placed

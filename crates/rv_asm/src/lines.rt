@@ -1,11 +1,11 @@
 //! The lines of a text, with their numbers, addresses and parts.
 
 ghost use Rattle.std.specs.Prelude.{◌≡◌, ◌+◌, ◌*◌, ◌<◌, ◌≤◌, ◌^◌, [], ◌∷◌, length, MatchOption};
-ghost use Rattle.rv_asm.specs.Texts.{lines};
 ghost use Rattle.rv_asm.specs.Programs.{size_of};
 
 use crate::parts::parts;
-use crate::texts::{cut, trimmed};
+use crate::texts::trimmed;
+use cos_text::{cut, first_line};
 
 /// A line: its number, counted from 1, the address in bytes of what it assembles to, and its parts.
 #[derive(Clone, Copy)]
@@ -26,19 +26,6 @@ pub struct Lines<'a> {
     address: u128,
     ghost counted: { passed + length rest.now < 2 ^ 64 },
     ghost reached: { address + 4 * length rest.now < 2 ^ 67 },
-}
-
-/// The first line of a text that isn't empty, and the rest of the text.
-fn first_line(text: &[u8]) -> (&[u8], &[u8])
-    requires { 1 ≤ length text.now }
-    ensures lines { lines text.now ≡ result.0.now ∷ lines result.1.now }
-    ensures shorter { length result.1.now + 1 ≤ length text.now }
-{
-    let (line, rest) = cut(text, b'\n');
-    match rest {
-        Some(rest) => (line, rest),
-        None => (line, &[]),
-    }
 }
 
 /// How many bytes a statement assembles to.

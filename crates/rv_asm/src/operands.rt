@@ -9,7 +9,8 @@ ghost use Rattle.rv_asm.specs.Forms.{exactly};
 use crate::Cause;
 use crate::numbers::plain;
 use crate::readings::{address, csr, register};
-use crate::texts::{cut, trimmed};
+use crate::texts::trimmed;
+use cos_text::cut;
 
 /// The piece at some place between commas, if there are so many.
 fn piece(text: &[u8], index: usize) -> Option<&[u8]>

@@ -3,7 +3,8 @@
 ghost use Rattle.std.specs.Prelude.{◌≡◌, option_copied};
 ghost use Rattle.rv_asm.specs.Programs.{label_of, statement_of};
 
-use crate::texts::{cut, has_name_form, trimmed};
+use crate::texts::{has_name_form, trimmed};
+use cos_text::cut;
 
 /// The label and the statement of a line without its comment. A line with no statement has an empty one.
 pub fn parts(text: &[u8]) -> (Option<&[u8]>, &[u8])

@@ -7,7 +7,8 @@ ghost use Rattle.rv_asm.specs.Readings.{unknown, below, register, csr, address};
 use crate::Cause;
 use crate::csrs::numbered;
 use crate::numbers::{decimal, plain, ranged, read_number};
-use crate::texts::{cut, has_name_form};
+use crate::texts::has_name_form;
+use cos_text::cut;
 
 /// What is wrong with a text that isn't known in its place.
 pub fn unknown(text: &[u8]) -> Cause

@@ -1,20 +1,7 @@
 //! Parts of a line, as parts of its bytes.
 
-ghost use Rattle.std.specs.Prelude.{◌≡◌, option_copied};
-ghost use Rattle.rv_asm.specs.Texts.{before, after, first_word, rest_of_words, trim, trim_start, trim_end, is_blank, is_name, is_name_byte, is_lower, are_name_bytes, is_mnemonic};
-
-/// What stands before the first byte of this value, and what stands after it.
-pub fn cut(text: &[u8], value: u8) -> (&[u8], Option<&[u8]>)
-    ensures front { result.0.now ≡ before value text.now }
-    ensures back { option_copied result.1 ≡ after value text.now }
-{
-    for i in 0..text.len() {
-        if text[i] == value {
-            return (&text[..i], Some(&text[i + 1..]));
-        }
-    }
-    (text, None)
-}
+ghost use Rattle.std.specs.Prelude.{◌≡◌};
+ghost use Rattle.rv_asm.specs.Texts.{first_word, rest_of_words, trim, trim_start, trim_end, is_blank, is_name, is_name_byte, is_lower, are_name_bytes, is_mnemonic};
 
 fn blank(byte: u8) -> bool
     ensures { result ≡ is_blank byte }

@@ -10,7 +10,7 @@ use Rattle.cosim_model.specs.declared.values.Reply.{Reply}
 use Rattle.cosim_model.specs.declared.values.Want.{Want}
 use Rattle.cosim_model.specs.declared.values.Want.TheVariants.{Fetch, Store, Line}
 use Rattle.cosim_model.specs.Values.{no_bytes}
-use Rattle.transcript.specs.Texts.{hexadecimal}
+use Rattle.cos_text.specs.Numbers.{hexadecimal}
 
 -- when a call was made, at which port, what it did, and the bytes that it is about
 abbrev pub place_text : ℕ → ℕ → List ℕ → ℕ → ℕ → List ℕ

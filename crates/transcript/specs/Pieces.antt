@@ -1,10 +1,11 @@
 -- What a piece of a line is as text, and the room that it takes at most.
-use Rattle.std.specs.Prelude.{ℕ, ◌*◌, ◌≤◌, List, length, sum_by, decimal}
+use Rattle.std.specs.Prelude.{ℕ, ◌*◌, List, length, sum_by, decimal}
 use Rattle.std.specs.List.{flat_map}
 use Rattle.hex.specs.Hex.{encode_lower}
 use Rattle.transcript.specs.declared.pieces.Piece.{Piece}
 use Rattle.transcript.specs.declared.pieces.Piece.TheVariants.{Text, Decimal, Hexadecimal, Word, Bytes}
-use Rattle.transcript.specs.Texts.{hexadecimal, word_digits}
+use Rattle.cos_text.specs.Numbers.{hexadecimal}
+use Rattle.transcript.specs.Texts.{word_digits}
 
 abbrev pub piece_text : Piece → List ℕ
 piece_text (Text text) = text.now
@@ -19,14 +20,6 @@ piece_room (Decimal number) = 20
 piece_room (Hexadecimal number) = 16
 piece_room (Word number) = 8
 piece_room (Bytes bytes) = 2 * length bytes.now
-
--- Bytes are few: at most 64.
-abbrev pub IsFew : Piece → Type 0
-IsFew (Text text) = Unit {0}
-IsFew (Decimal number) = Unit {0}
-IsFew (Hexadecimal number) = Unit {0}
-IsFew (Word number) = Unit {0}
-IsFew (Bytes bytes) = length bytes.now ≤ 64
 
 abbrev pub pieces_text : List Piece → List ℕ
 pieces_text pieces = flat_map piece_text pieces

@@ -2,8 +2,9 @@
 ghost use Rattle.std.specs.Prelude.{◌≡◌, ◌+◌, ◌≤◌, ◌++◌, length, OnOk, OnErr};
 ghost use Rattle.transcript.specs.CallLines.{place_text, value_text, code_text, mask_text, access_line, shown_bytes, call_text, HasLine, call_room};
 
-use crate::pieces::{Piece, push_hex};
+use crate::pieces::Piece;
 use cos_base::{NoMemory, Octets};
+use cos_text::push_bytes;
 use cosim_model::{Access, Answer, Call, Reply, Want};
 
 /// What an access's line has at most, in bytes.
@@ -157,7 +158,7 @@ impl Served {
     {
         push_place(out, self.tick, self.port, "fetch", addr, size);
         self.push_due(out);
-        push_hex(out, shown(reply));
+        push_bytes(out, shown(reply));
         push_code(out, reply.code);
     }
 
@@ -180,7 +181,7 @@ impl Served {
         let (stored, _) = bytes.split_at(usize::from(size));
         push_place(out, self.tick, self.port, "store", addr, size);
         self.push_due(out);
-        push_hex(out, stored);
+        push_bytes(out, stored);
         push_mask(out, mask);
         push_code(out, reply.code);
     }

@@ -4,8 +4,9 @@ ghost use Rattle.std.specs.List.{flat_map};
 ghost use Rattle.transcript.specs.ClosingLines.{stop_line, register_text, hart_lines, state_lines, head_text, uart_head, out_line, out_room, closing_text};
 
 use crate::ending::{Ending, Out};
-use crate::pieces::{Piece, push_bytes};
+use crate::pieces::Piece;
 use cos_base::{NoMemory, Octets};
+use cos_text::push_bytes;
 use cosim_model::HartView;
 
 /// What the closing lines have at most before those of UARTs, in bytes.

@@ -11,9 +11,9 @@ ghost use Rattle.transcript.specs.ClosingLines.{out_line, closing_text, run_text
 use crate::call_lines::{push_call, room_of};
 use crate::closing::{HEAD_ROOM, push_head, push_out_head};
 use crate::ending::{Ending, Out};
-use crate::pieces::{Piece, push_hex};
 use cos_api::{Call, Calls};
 use cos_base::{Failed, Octets, Sink};
+use cos_text::push_bytes;
 
 /// What a piece has at most, in bytes. A put may be a call of the system, so pieces are filled up.
 const PIECE: usize = 512;
@@ -74,7 +74,7 @@ fn move_bytes<K: Sink>(bytes: &[u8], piece: &mut Octets, out: &mut K) -> Result<
     'chunks: while rest.len() > 0 {
         let (front, back) = rest.split_at(rest.len().min(64));
         make_room(128, piece, out)?;
-        push_hex(piece, front);
+        push_bytes(piece, front);
         rest = back;
     }
     Ok(())

@@ -1,5 +1,5 @@
 use Rattle.std.proofs.Common.{arith}
-use Rattle.rv_asm.specs.Texts.{lines}
+use Rattle.cos_text.specs.Lines.{lines}
 use Rattle.cosim_packets.specs.PackLaws.{packed-start, packed-more}
 use Rattle.cosim_packets.proofs.packing.pack_lines.Goals as goal
 

@@ -1,5 +1,5 @@
 use Rattle.std.proofs.Common.{◌+◌, ◌≤◌, length}
-use Rattle.rv_asm.specs.Texts.{lines}
+use Rattle.cos_text.specs.Lines.{lines}
 use Rattle.cosim_packets.specs.PackLaws.{PackedTo}
 use Rattle.cosim_packets.proofs.packing.pack_lines.Given as goal
 

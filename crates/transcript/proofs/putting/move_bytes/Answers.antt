@@ -1,6 +1,6 @@
 use Rattle.std.proofs.Common.{[], ◌++◌, refl, sym, ◌∙◌, arith}
 use Rattle.hex.specs.Hex.{encode_lower}
-use Rattle.transcript.proofs.HexDigits.{encode_lower-step, encode_lower-none}
+use Rattle.cos_text.proofs.Puts.{put-chunk, put-done}
 use Rattle.transcript.proofs.Moving.{moved-fails, moved-nothing, moved-pushed, moved-stops, moved-text}
 use Rattle.transcript.proofs.putting.move_bytes.Goals as goal
 
@@ -14,9 +14,9 @@ chunks-preserved g c =
       record { short = omega (arith, c.in_ok-make_room.ensures.room, c.in_ok-make_room.ensures.piece); room = omega (arith, c.in_ok-make_room.ensures.piece) },
       (
         inv.0 ++ encode_lower c.split_at.result.0.now,
-        sym (encode_lower-step _ inv.0 c.chunks.rest.now _ _ _ c.split_at.ensures.front c.split_at.ensures.back (sym inv.1)),
+        inv.1 ∙ sym (put-chunk inv.0 _ c.split_at.result.0.now c.split_at.result.1.now c.chunks.rest.now _ c.split_at.ensures.front c.split_at.ensures.back refl),
         moved-pushed g.K.Sink.told g.K.Sink.count g.K.Sink.room g.K.Sink.sound _ _ _ _ _ _ _ _ _ _
-            inv.2 c.in_ok-make_room.ensures.moved c.push_hex.ensures.bytes refl,
+            inv.2 c.in_ok-make_room.ensures.moved c.push_bytes.ensures.bytes refl,
       ),
     )
 
@@ -32,4 +32,4 @@ pub returns-clause-moved : goal.returns-clause-moved
 returns-clause-moved g c =
     let inv = c.chunks.invariant.1 in
     moved-text g.K.Sink.told g.K.Sink.count g.K.Sink.room g.K.Sink.sound _ _ _ _ _ _ _
-    (sym (encode_lower-none inv.0 c.chunks.rest.now (omega (arith, c.chunks-test.false))) ∙ sym inv.1) inv.2
+    (put-done inv.0 c.chunks.rest.now _ (omega (arith, c.chunks-test.false)) (sym inv.1)) inv.2

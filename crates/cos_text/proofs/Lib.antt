@@ -1,0 +1,5 @@
+pub mod Digits
+pub mod HexDigits
+pub mod LineSteps
+pub mod Puts
+pub mod Spelled

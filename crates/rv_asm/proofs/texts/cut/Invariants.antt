@@ -1,7 +1,0 @@
-use Rattle.std.proofs.Common.{◌≡◌, ◌++◌, take, drop}
-use Rattle.rv_asm.specs.Texts.{before, after}
-use Rattle.rv_asm.proofs.texts.cut.Given as goal
-
-abbrev pub invariant-loop-i : goal.invariant-loop-i
-invariant-loop-i l =
-    (before l.value l.text ≡ take l.i l.text ++ before l.value (drop l.i l.text)) × (after l.value l.text ≡ after l.value (drop l.i l.text))
