@@ -4,12 +4,14 @@
 //! Everything above is proved once for any [`Device`] and any [`Master`], from the functions and laws that these traits state.
 #![tactic(auto)]
 
+mod answers;
 mod calls;
 mod device;
 mod master;
 #[cfg(test)]
 mod tests;
 
+pub use answers::plain;
 pub use calls::Calls;
 pub use cosim_model::{Access, Answer, Bus, Call, Caps, Closing, HartView, Reply, Want};
 pub use device::Device;

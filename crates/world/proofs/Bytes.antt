@@ -2,7 +2,7 @@
 use Rattle.std.proofs.Common.{◌≡◌, ℕ, zero, suc, ◌+◌, ◌-◌, ◌*◌, ◌/◌, ◌%◌, ◌^◌, ◌<◌, ◌≤◌, Bool, not, nat_eq, List, [], ◌∷◌, ◌++◌, length, take, drop, map, set, get_or, replicate, refl, sym, ap, ◌∙◌, subst, arith, append_assoc, add-one}
 use Rattle.std.proofs.lemmas.List.{take_more_set, drop-replicate, take-replicate, length-set, append-nil, length-append, get_or_at, length-take-le, length-replicate}
 use Rattle.std.proofs.Math.Seq.{take-append-add}
-use Rattle.std.proofs.Math.Nat.{mod-eq_of_lt, pow-le-pow_right, pow-suc}
+use Rattle.std.proofs.Math.Nat.{mod-eq_of_lt}
 use Rattle.cosim_model.specs.Values.{bits_of, padded, no_bytes}
 use Rattle.cosim_model.specs.Packets.{is_enabled, count_from}
 use Rattle.cos_api.specs.Enables.{enabled_by}
@@ -85,15 +85,6 @@ enabled-bits mask (suc n) = map-count (is_enabled (bit_bytes mask (suc n))) (at_
   where
     same : (i : ℕ) → i < suc n → is_enabled (bit_bytes mask (suc n)) i ≡ at_place (bit_bytes mask (suc n)) i
     same i h = ap (λ j. not (nat_eq (get_or (bit_bytes mask (suc n)) j 0) 0)) (ap (λ m. i % m) (length-bit_bytes mask (suc n)) ∙ mod-eq_of_lt h)
-
--- A number of few base 256 digits, and one more digit.
-
-pub digits-fit : (n x b : ℕ) → n ≤ 8 → 0 < n → x < 256 ^ (n - 1) → b < 256 → b + 256 * x < 256 ^ n
-digits-fit zero x b few some h low = absurd (omega arith)
-digits-fit (suc n) x b few some h low = (let e : suc n - 1 ≡ n = omega arith in let less : x < 256 ^ n = subst (λ m. x < 256 ^ m) e h in let up : 256 ^ suc n ≡ 256 ^ n * 256 = pow-suc 256 n in omega arith)
-
-pub digits-small : (n : ℕ) → n ≤ 8 → 256 ^ n ≤ 18446744073709551616
-digits-small n few = pow-le-pow_right {n = 256} (omega arith) few
 
 -- the enables of a store
 pub enabled-mask : (es front : List ℕ) (mask n : ℕ) → es ≡ bit_bytes mask (length (take n front)) → front ≡ no_bytes → n ≤ 64 → enabled_by es n ≡ bits_of mask n

@@ -3,7 +3,6 @@
 //! [`direct`] is the run without packets that every other run is measured against.
 #![tactic(auto)]
 
-mod bus;
 mod machine;
 pub mod outcome;
 mod parts;

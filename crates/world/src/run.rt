@@ -1,10 +1,9 @@
 // A machine at work: its parts, the calls so far, and the tick.
 ghost use Rattle.std.specs.Prelude.{◌≡◌, ◌≤◌, All, map};
 
-use crate::bus::plain;
 use crate::service::serve;
 use crate::wants::first_wanting;
-use cos_api::{Bus, Call, Calls, Device, Master};
+use cos_api::{Bus, Call, Calls, Device, Master, plain};
 use cos_base::NoMemory;
 
 /// In which order the wants of a boundary are served.

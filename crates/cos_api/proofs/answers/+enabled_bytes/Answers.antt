@@ -1,7 +1,7 @@
 use Rattle.std.proofs.Common.{◌<◌, arith}
-use Rattle.world.proofs.Bytes.{digits-fit, digits-small}
-use Rattle.world.proofs.bus.+enabled_bytes.Goals as goal
-use Rattle.world.proofs.bus.+enabled_bytes.Goals.{then-lanes-eq1, else-lanes-eq1}
+use Rattle.cos_api.proofs.Digits.{digits-fit, digits-small}
+use Rattle.cos_api.proofs.answers.+enabled_bytes.Goals as goal
+use Rattle.cos_api.proofs.answers.+enabled_bytes.Goals.{then-lanes-eq1, else-lanes-eq1}
 
 pub overflow_mul-result : goal.overflow_mul-result
 overflow_mul-result t c = omega (arith, digits-fit c.args.size c.enabled_bytes-rest.result 0 c.requires (omega arith) c.enabled_bytes-rest.ensures.small (omega arith), digits-small c.args.size c.requires)

@@ -2,7 +2,7 @@
 ghost use Rattle.std.specs.Prelude.{◌≡◌, ◌^◌, ◌<◌, ◌≤◌};
 ghost use Rattle.cosim_model.specs.Values as model;
 
-use cos_api::{Access, Answer};
+use cosim_model::{Access, Answer};
 
 /// The greatest code that a bus hands on.
 const MOST_CODE: u8 = 15;
