@@ -1,3 +1,4 @@
 pub mod CallLists
 pub mod Enables
+pub mod Levels
 pub mod SmallParts

@@ -7,6 +7,7 @@
 mod answers;
 mod calls;
 mod device;
+mod levels;
 mod master;
 #[cfg(test)]
 mod tests;
@@ -15,4 +16,5 @@ pub use answers::plain;
 pub use calls::Calls;
 pub use cosim_model::{Access, Answer, Bus, Call, Caps, Closing, HartView, Reply, Want};
 pub use device::Device;
+pub use levels::with_level;
 pub use master::Master;

@@ -1,5 +1,5 @@
 -- The master of a script keeps the laws of masters.
-use Rattle.std.specs.Prelude.{◌≡◌, ℕ, zero, suc, ◌^◌, ◌<◌, ◌≤◌, ◌==◌, Bool, true, false, ◌&&◌, ◌||◌, nat_lt, if◌then◌else◌, List, [], ◌∷◌, Option, Some, None, refl}
+use Rattle.std.specs.Prelude.{◌≡◌, ℕ, zero, suc, ◌^◌, ◌<◌, ◌≤◌, ◌==◌, Bool, true, false, ◌&&◌, ◌||◌, nat_lt, List, [], ◌∷◌, Option, Some, None, refl}
 use Rattle.std.proofs.Common.{arith, sym, inl, inr, subst, ⊎_elim}
 use Rattle.std.proofs.Math.Nat.{one-le-pow}
 use Rattle.std.proofs.lemmas.Bool.{ltb-true, eqb-true}
@@ -11,7 +11,7 @@ use Rattle.cos_script.specs.declared.step.ScriptStep.{ScriptStep}
 use Rattle.cos_script.specs.declared.step.ScriptStep.TheVariants.{Read, Write, Wait}
 use Rattle.cos_script.specs.Lanes.{all_lanes}
 use Rattle.cos_script.specs.Steps.{is_size, fits}
-use Rattle.cos_script.specs.Masters.{ScriptState, issue_step, issue_first, issue_unit, script_model, with_level}
+use Rattle.cos_script.specs.Masters.{ScriptState, issue_step, issue_first, issue_unit, script_model}
 
 and-both : (a b : Bool) → (a && b) ≡ true → (a ≡ true) × (b ≡ true)
 and-both true true e = (refl, refl)
@@ -124,10 +124,6 @@ unit-ports : (m : ScriptState) (wait : ℕ) → (issue_unit m wait).0.ports ≡ 
 unit-ports m zero = first-ports m m.left
 unit-ports m (suc wait) = refl
 
-line-keeps : (m : ScriptState) (number : ℕ) (level b : Bool) → let n : ScriptState = (if b then record m { lines = with_level m.lines number level } else m) in (script_model.stopped n ≡ script_model.stopped m) × (n.issued ≡ m.issued) × (n.ports ≤ m.ports) × (true ≡ true → true ≡ true)
-line-keeps m number level true = (refl, refl, omega arith, λ e. e)
-line-keeps m number level false = (refl, refl, omega arith, λ e. e)
-
 pub script_lawful : IsMaster script_model
 script_lawful = record {
   issue_access = λ m b e. (let is = unit-issues m b m.wait e in (is.0.port, is.0.access, is.1, λ f. is.0.lanes));
@@ -140,5 +136,5 @@ script_lawful = record {
   read_is = λ m addr n. read_of-is m.ram addr n;
   write_is = λ m addr bytes ons. write_of-code m.ram addr bytes ons;
   write_keeps = λ m addr bytes ons. (refl, refl, omega arith, λ e. e);
-  line_keeps = λ m number level. line-keeps m number level (nat_lt number 32);
+  line_keeps = λ m number level. (refl, refl, omega arith, λ e. e);
 }

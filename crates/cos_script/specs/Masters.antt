@@ -1,6 +1,6 @@
 -- A master that does the steps of a script: it holds those that are left, and what is left of a wait.
-use Rattle.std.specs.Prelude.{◌≡◌, ℕ, zero, suc, ◌-◌, ◌^◌, Bool, true, false, nat_lt, if◌then◌else◌, bit_and, bit_or, List, [], ◌∷◌, All, Option, Some, None, Result, Ok, Err}
-use Rattle.std.specs.Int.{w32, bit_not}
+use Rattle.std.specs.Prelude.{◌≡◌, ℕ, zero, suc, ◌-◌, Bool, true, false, List, [], ◌∷◌, All, Option, Some, None, Result, Ok, Err}
+use Rattle.cos_api.specs.Levels.{with_level}
 use Rattle.cosim_model.specs.declared.values.Bus.{Bus}
 use Rattle.cosim_model.specs.Parts.{MasterModel}
 use Rattle.sys_ram.specs.Memory.{read_of, write_of}
@@ -51,17 +51,13 @@ abbrev pub stopped_of : ℕ → List ScriptStep → Option Bus → Option ℕ
 stopped_of zero [] None = Some 0
 stopped_of wait left issued = None
 
-abbrev pub with_level : ℕ → ℕ → Bool → ℕ
-with_level lines number true = bit_or lines (2 ^ number)
-with_level lines number false = bit_and lines (bit_not w32 (2 ^ number))
-
 abbrev pub script_model : MasterModel ScriptState
 script_model = record {
   issue = λ m. issue_unit m m.wait;
   finish = λ m answer. record m { issued = None };
   read = λ m addr n. read_of m.ram addr n;
   write = λ m addr bytes ons. (record m { ram = (write_of m.ram addr bytes ons).0 }, (write_of m.ram addr bytes ons).1);
-  line = λ m number level. if nat_lt number 32 then record m { lines = with_level m.lines number level } else m;
+  line = λ m number level. record m { lines = with_level m.lines number level };
   stopped = λ m. stopped_of m.wait m.left m.issued;
   closing = λ m. record { hart = None; lines = m.lines };
   issued = λ m. m.issued;

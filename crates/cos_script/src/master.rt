@@ -4,7 +4,7 @@ ghost use Rattle.std.specs.Prelude.{◌≡◌, length};
 use crate::ScriptFault;
 use crate::lines::steps_of;
 use crate::step::ScriptStep;
-use cos_api::{Answer, Bus, Closing, Master};
+use cos_api::{Answer, Bus, Closing, Master, with_level};
 use cos_base::NoMemory;
 use std::alloc::Global;
 use std::marker::Model;
@@ -124,14 +124,7 @@ impl Master for ScriptMaster {
     }
 
     fn line(&mut self, line: u32, level: bool) {
-        if line < 32 {
-            let bit = 1 << line;
-            self.lines = if level {
-                self.lines | bit
-            } else {
-                self.lines & !bit
-            };
-        }
+        self.lines = with_level(self.lines, line, level);
     }
 
     fn stopped(&self) -> Option<u32> {

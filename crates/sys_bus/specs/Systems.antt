@@ -1,6 +1,6 @@
 -- The system block: its registers, and what it makes pending.
-use Rattle.std.specs.Prelude.{ℕ, ◌+◌, ◌^◌, Bool, true, false, nat_lt, nat_eq, if◌then◌else◌, bit_and, bit_or, Option, Some, None}
-use Rattle.std.specs.Int.{w32, bit_not}
+use Rattle.std.specs.Prelude.{ℕ, ◌+◌, ◌^◌, Bool, nat_eq, if◌then◌else◌, bit_and, Option, Some, None}
+use Rattle.cos_api.specs.Levels.{with_level}
 use Rattle.sys_bus.specs.declared.system.SystemBlock.{SystemBlock}
 use Rattle.sys_bus.specs.declared.system.SystemRegister.{SystemRegister}
 use Rattle.sys_bus.specs.declared.system.SystemRegister.TheVariants.{Power, Lines, Enable, TimerEnable}
@@ -25,10 +25,6 @@ register_value s TimerEnable = s.timer_enable
 abbrev pub pending_of : SystemBlock → ℕ
 pending_of s = (if nat_eq (bit_and s.lines s.enable) 0 then 0 else 2 ^ 11) + (if nat_eq (bit_and s.lines s.timer_enable) 0 then 0 else 2 ^ 7)
 
-abbrev pub with_level : ℕ → ℕ → Bool → ℕ
-with_level lines number true = bit_or lines (2 ^ number)
-with_level lines number false = bit_and lines (bit_not w32 (2 ^ number))
-
--- A level on a line: line i is bit i, and there are 32 of them.
+-- a level on a line
 abbrev pub lined : SystemBlock → ℕ → Bool → SystemBlock
-lined s number level = if nat_lt number 32 then record s { lines = with_level s.lines number level } else s
+lined s number level = record s { lines = with_level s.lines number level }

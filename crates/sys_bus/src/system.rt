@@ -1,4 +1,5 @@
 // The system block: the registers of the machine itself.
+use cos_api::with_level;
 
 /// A register of the system block.
 #[derive(Clone, Copy, PartialEq, Eq, Debug)]
@@ -79,14 +80,7 @@ impl SystemBlock {
     pub fn line(&mut self, number: u32, level: bool)
         ensures { self.new ≡ lined self.old number level }
     {
-        if number < 32 {
-            let bit = 1 << number;
-            self.lines = if level {
-                self.lines | bit
-            } else {
-                self.lines & !bit
-            };
-        }
+        self.lines = with_level(self.lines, number, level);
     }
 
     /// What a register reads as.
