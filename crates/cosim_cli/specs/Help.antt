@@ -1,10 +1,10 @@
 -- The help text: a line for each command.
 use Rattle.std.specs.Prelude.{ℕ, ◌≡◌, List, [], ◌∷◌, codes}
-use Rattle.cosim_status.specs.Lines.{joined}
+use Rattle.std.specs.List.{concat}
 use Rattle.cosim_status.specs.Outcomes.{Outcome, Prints}
 
 abbrev pub help_text : List ℕ
-help_text = joined (
+help_text = concat (
     codes "direct CONFIG\n"
     ∷ codes "local CONFIG [schedule N | steps FILE] [capture FILE]\n"
     ∷ codes "run CONFIG PROGRAM [capture FILE]\n"

@@ -7,7 +7,7 @@ use Rattle.std.proofs.Common.{refl, ap, sym, ◌∙◌, subst, append_assoc, dro
 use Rattle.std.proofs.lemmas.List.{take_more, take-append-drop}
 use Rattle.std.specs.Borrow.{Bor}
 use Rattle.end_device.specs.TalkLaws.{prefix-by, prefix-part}
-use Rattle.cosim_status.specs.Lines.{joined, texts, IsPut}
+use Rattle.cosim_status.specs.Lines.{texts, IsPut}
 use Rattle.std.proofs.lemmas.List.{append-nil}
 use Rattle.cos_base.specs.Counts.{Rises}
 use Rattle.cos_base.specs.Sinks.{Puts}
@@ -39,13 +39,9 @@ puts-nothing (Some x) = ap (λ l. Some l) (sym (append-nil x))
 pub puts-text : (a b : Option (List ℕ)) (p q : List ℕ) (r : Result Unit Failed) → q ≡ p → Puts a b p r → Puts a b q r
 puts-text a b p q r is puts = subst (λ t. Puts a b t r) (sym is) puts
 
-pub joined-append : (xs ys : List (List ℕ)) → joined (xs ++ ys) ≡ joined xs ++ joined ys
-joined-append [] ys = refl
-joined-append (x ∷ xs) ys = ap (λ l. x ++ l) (joined-append xs ys) ∙ sym (append_assoc x (joined xs) (joined ys))
-
-pub joined-map-append : (xs : List (Bor (List ℕ))) (y : Bor (List ℕ)) → texts (xs ++ y ∷ []) ≡ texts xs ++ y.now
-joined-map-append [] y = append-nil y.now
-joined-map-append (x ∷ xs) y = ap (λ l. x.now ++ l) (joined-map-append xs y) ∙ sym (append_assoc x.now (texts xs) y.now)
+pub texts-one-more : (xs : List (Bor (List ℕ))) (y : Bor (List ℕ)) → texts (xs ++ y ∷ []) ≡ texts xs ++ y.now
+texts-one-more [] y = append-nil y.now
+texts-one-more (x ∷ xs) y = ap (λ l. x.now ++ l) (texts-one-more xs y) ∙ sym (append_assoc x.now (texts xs) y.now)
 
 pub texts-append : (xs ys : List (Bor (List ℕ))) → texts (xs ++ ys) ≡ texts xs ++ texts ys
 texts-append [] ys = refl
@@ -53,7 +49,7 @@ texts-append (x ∷ xs) ys = ap (λ l. x.now ++ l) (texts-append xs ys) ∙ sym 
 
 -- a part of the pieces was put, and then a part of the next
 pub texts-front : (ps : List (Bor (List ℕ))) (i : ℕ) (d : Bor (List ℕ)) → i < length ps → texts (take (i + 1) ps) ≡ texts (take i ps) ++ (get_or ps i d).now
-texts-front ps i d small = ap texts (take_more ps i d small) ∙ joined-map-append (take i ps) (get_or ps i d)
+texts-front ps i d small = ap texts (take_more ps i d small) ∙ texts-one-more (take i ps) (get_or ps i d)
 
 -- pieces up to one are a prefix of all
 pub texts-prefix : (ps : List (Bor (List ℕ))) (i : ℕ) → IsPrefix (texts (take i ps)) (texts ps)

@@ -1,5 +1,6 @@
 -- The line that tells a status, and what of it was put.
 use Rattle.std.specs.Prelude.{ℕ, ◌≡◌, List, [], ◌∷◌, ◌++◌, map, codes, decimal}
+use Rattle.std.specs.List.{concat}
 use Rattle.std.specs.Fmt.{signed_decimal}
 use Rattle.std.specs.Borrow.{Bor}
 use Rattle.std.specs.declared.option.Option.{Option}
@@ -25,25 +26,20 @@ use Rattle.cosim_status.specs.declared.status.InputFault.TheVariants as input
 use Rattle.cosim_status.specs.declared.status.Object.{Object}
 use Rattle.cosim_status.specs.declared.status.Object.TheVariants as object
 
--- pieces, one after another
-abbrev pub joined : List (List ℕ) → List ℕ
-joined [] = []
-joined (x ∷ xs) = x ++ joined xs
-
 -- pieces, one after another, before a text
 abbrev pub before : List (List ℕ) → List ℕ → List ℕ
 before [] text = text
 before (x ∷ xs) text = x ++ before xs text
 
 abbrev pub texts : List (Bor (List ℕ)) → List ℕ
-texts pieces = joined (map (λ p. p.now) pieces)
+texts pieces = concat (map (λ p. p.now) pieces)
 
 -- a line that ends in one number, and in two
 abbrev pub line_one : List ℕ → ℕ → List ℕ
-line_one front n = joined (front ∷ decimal n ∷ codes "\n" ∷ [])
+line_one front n = concat (front ∷ decimal n ∷ codes "\n" ∷ [])
 
 abbrev pub line_two : List ℕ → ℕ → ℕ → List ℕ
-line_two front n m = joined (front ∷ decimal n ∷ codes " " ∷ decimal m ∷ codes "\n" ∷ [])
+line_two front n m = concat (front ∷ decimal n ∷ codes " " ∷ decimal m ∷ codes "\n" ∷ [])
 
 -- how a table of the configuration is called
 abbrev pub table_text : TableName → List ℕ
@@ -53,7 +49,7 @@ table_text (table.Port p) = decimal p
 
 -- a fault at a key of a table
 abbrev pub key_line : List ℕ → TableName → List ℕ → List ℕ
-key_line front t key = joined (front ∷ table_text t ∷ codes " " ∷ key ∷ codes "\n" ∷ [])
+key_line front t key = concat (front ∷ table_text t ∷ codes " " ∷ key ∷ codes "\n" ∷ [])
 
 -- the line of a configuration's fault: its variant, followed by its fields
 abbrev pub config_line : ConfigFault → List ℕ
@@ -63,7 +59,7 @@ config_line (config.Missing t key) = key_line (codes "cosim: config: Missing ") 
 config_line (config.Kind t key) = key_line (codes "cosim: config: Kind ") t key
 config_line (config.TooMany count) = line_one (codes "cosim: config: TooMany ") count
 config_line (config.Word t key) = key_line (codes "cosim: config: Word ") t key
-config_line (config.Range t key value) = joined (codes "cosim: config: Range " ∷ table_text t ∷ codes " " ∷ key ∷ codes " " ∷ signed_decimal value ∷ codes "\n" ∷ [])
+config_line (config.Range t key value) = concat (codes "cosim: config: Range " ∷ table_text t ∷ codes " " ∷ key ∷ codes " " ∷ signed_decimal value ∷ codes "\n" ∷ [])
 config_line (config.Overlap a b) = line_two (codes "cosim: config: Overlap ") a b
 config_line (config.LineTwice a b) = line_two (codes "cosim: config: LineTwice ") a b
 config_line (config.Needs port cap) = line_two (codes "cosim: config: Needs ") port cap
@@ -93,7 +89,7 @@ abbrev pub input_line : InputFault → List ℕ
 input_line input.ImageEmpty = codes "cosim: input: ImageEmpty\n"
 input_line (input.ImageTooLarge size got) = line_two (codes "cosim: input: ImageTooLarge ") size got
 input_line (input.Line n) = line_one (codes "cosim: input: Line ") n
-input_line (input.Assembly n c) = joined (codes "cosim: input: Assembly " ∷ decimal n ∷ codes " " ∷ asm_text c ∷ codes "\n" ∷ [])
+input_line (input.Assembly n c) = concat (codes "cosim: input: Assembly " ∷ decimal n ∷ codes " " ∷ asm_text c ∷ codes "\n" ∷ [])
 input_line (input.UartInput port len) = line_two (codes "cosim: input: UartInput ") port len
 input_line (input.DiskImage port len) = line_two (codes "cosim: input: DiskImage ") port len
 input_line (input.Malformed f) = malformed_line f
@@ -102,12 +98,12 @@ input_line (input.Words len) = line_one (codes "cosim: input: Words ") len
 
 -- the line of a peer's fault
 abbrev pub peer_line : ℕ → EndFault → List ℕ
-peer_line port (fault.Unbuilt start) = joined (codes "cosim: peer p" ∷ decimal port ∷ codes ": Unbuilt " ∷ decimal start ∷ codes "\n" ∷ [])
-peer_line port (fault.Truncated start held) = joined (codes "cosim: peer p" ∷ decimal port ∷ codes ": Truncated " ∷ decimal start ∷ codes " " ∷ decimal held ∷ codes "\n" ∷ [])
-peer_line port (fault.Ended taken) = joined (codes "cosim: peer p" ∷ decimal port ∷ codes ": Ended " ∷ decimal taken ∷ codes "\n" ∷ [])
-peer_line port (fault.TooMuch taken) = joined (codes "cosim: peer p" ∷ decimal port ∷ codes ": TooMuch " ∷ decimal taken ∷ codes "\n" ∷ [])
-peer_line port (fault.Link count) = joined (codes "cosim: peer p" ∷ decimal port ∷ codes ": Link " ∷ decimal count ∷ codes "\n" ∷ [])
-peer_line port fault.NoMemory = joined (codes "cosim: peer p" ∷ decimal port ∷ codes ": NoMemory\n" ∷ [])
+peer_line port (fault.Unbuilt start) = concat (codes "cosim: peer p" ∷ decimal port ∷ codes ": Unbuilt " ∷ decimal start ∷ codes "\n" ∷ [])
+peer_line port (fault.Truncated start held) = concat (codes "cosim: peer p" ∷ decimal port ∷ codes ": Truncated " ∷ decimal start ∷ codes " " ∷ decimal held ∷ codes "\n" ∷ [])
+peer_line port (fault.Ended taken) = concat (codes "cosim: peer p" ∷ decimal port ∷ codes ": Ended " ∷ decimal taken ∷ codes "\n" ∷ [])
+peer_line port (fault.TooMuch taken) = concat (codes "cosim: peer p" ∷ decimal port ∷ codes ": TooMuch " ∷ decimal taken ∷ codes "\n" ∷ [])
+peer_line port (fault.Link count) = concat (codes "cosim: peer p" ∷ decimal port ∷ codes ": Link " ∷ decimal count ∷ codes "\n" ∷ [])
+peer_line port fault.NoMemory = concat (codes "cosim: peer p" ∷ decimal port ∷ codes ": NoMemory\n" ∷ [])
 
 -- the line of an object of the outside
 abbrev pub outside_line : Object → ℕ → List ℕ

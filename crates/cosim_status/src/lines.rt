@@ -1,7 +1,8 @@
 // The line that tells a status, put from fixed pieces. It takes no memory.
 ghost use Rattle.std.specs.Prelude.{◌≡◌, ◌∷◌, [], codes, decimal};
 ghost use Rattle.std.specs.Fmt.{signed_decimal};
-ghost use Rattle.cosim_status.specs.Lines.{IsPut, TellsStatus, joined, before, texts, line_one, line_two, table_text as text_of_table, asm_text as text_of_cause, key_line, config_line, cause_text, malformed_line, input_line, peer_line, outside_line, line_of};
+ghost use Rattle.std.specs.List.{concat};
+ghost use Rattle.cosim_status.specs.Lines.{IsPut, TellsStatus, before, texts, line_one, line_two, table_text as text_of_table, asm_text as text_of_cause, key_line, config_line, cause_text, malformed_line, input_line, peer_line, outside_line, line_of};
 
 use crate::status::{InputFault, Object, Status};
 use cos_base::{Failed, Sink};
@@ -65,7 +66,7 @@ fn put_key<E: Sink>(err: &mut E, front: &str, table: TableName, key: &str)
 
 /// Puts the line of a number that is out of range.
 fn put_range<E: Sink>(err: &mut E, table: TableName, key: &str, value: &i64)
-    ensures { IsPut (E.count err.old) (E.count err.new) (E.told err.old) (E.told err.new) (joined (codes "cosim: config: Range " ∷ text_of_table table ∷ codes " " ∷ key.now ∷ codes " " ∷ signed_decimal value.now ∷ codes "\n" ∷ [])) }
+    ensures { IsPut (E.count err.old) (E.count err.new) (E.told err.old) (E.told err.new) (concat (codes "cosim: config: Range " ∷ text_of_table table ∷ codes " " ∷ key.now ∷ codes " " ∷ signed_decimal value.now ∷ codes "\n" ∷ [])) }
 {
     let mut buffer = Buffer::new();
     let mut number = Buffer::new();

@@ -5,7 +5,8 @@ use Rattle.std.proofs.lemmas.Bool.{ltb-false, leb-true}
 use Rattle.std.specs.Prelude.{nat_lt}
 use Rattle.rp_header.specs.Headers.{header_bytes}
 use Rattle.rp_header.specs.HeaderLaws.{header-numbers}
-use Rattle.rp_header.specs.Numbers.{be, number, joined, AreBytes}
+use Rattle.std.specs.List.{concat}
+use Rattle.rp_header.specs.Numbers.{be, number, AreBytes}
 use Rattle.rp_header.specs.NumberLaws.{be-number, number-take, AreBytes-take, AreBytes-drop}
 use Rattle.rp_control.specs.Controls.{caps_bytes, hello_bytes}
 use Rattle.rp_control.specs.Refusals.{numbers_in}
@@ -154,8 +155,8 @@ abbrev pub greeting_at : List ℕ → Greeting
 greeting_at x = record { id = number 4 (drop 8 x); dev = number 4 (drop 16 x); minor = number 2 (drop 22 x); caps = numbers_in (number 2 (drop 28 x)) (drop 32 x) }
 
 -- pieces one behind the other, and a rest behind them
-joined-append : (a b c d e f rest : List ℕ) → joined (a ∷ b ∷ c ∷ d ∷ e ∷ f ∷ []) ++ rest ≡ a ++ (b ++ (c ++ (d ++ (e ++ (f ++ rest)))))
-joined-append a b c d e f rest = simp (append_assoc, append-nil) refl
+concat-append : (a b c d e f rest : List ℕ) → concat (a ∷ b ∷ c ∷ d ∷ e ∷ f ∷ []) ++ rest ≡ a ++ (b ++ (c ++ (d ++ (e ++ (f ++ rest)))))
+concat-append a b c d e f rest = simp (append_assoc, append-nil) refl
 
 -- the body of a hello, number by number
 hello-cut : (x : List ℕ) (n : ℕ) → AreBytes x → 32 + 4 * n ≤ length x → number 2 (drop 20 x) ≡ 4 → number 4 (drop 24 x) ≡ 32 → number 2 (drop 28 x) ≡ n → number 2 (drop 30 x) ≡ 0 → drop 20 x ≡ hello_bytes 4 (number 2 (drop 22 x)) (numbers_in n (drop 32 x)) ++ drop (32 + 4 * n) x
@@ -172,7 +173,7 @@ hello-cut x n bytes long major offset count reserved =
     let one : drop 20 x ≡ be 4 2 ++ drop 22 x = number-cut 20 2 x bytes (omega (arith, long)) ∙ ap (λ m. be m 2 ++ drop 22 x) major in
     let rest : List ℕ = drop (32 + 4 * n) x in
     one ∙ ap (λ r. be 4 2 ++ r) (two ∙ ap (λ r. be (number 2 (drop 22 x)) 2 ++ r) (three ∙ ap (λ r. be 32 4 ++ r) (four ∙ ap (λ r. be (length caps) 2 ++ r) (five ∙ ap (λ r. be 0 2 ++ r) last))))
-    ∙ sym (joined-append (be 4 2) (be (number 2 (drop 22 x)) 2) (be 32 4) (be (length caps) 2) (be 0 2) (caps_bytes caps) rest)
+    ∙ sym (concat-append (be 4 2) (be (number 2 (drop 22 x)) 2) (be 32 4) (be (length caps) 2) (be 0 2) (caps_bytes caps) rest)
 
 -- A hello that is taken is spelled at the front.
 pub hello-spelled : (last : ℕ) (x : List ℕ) (size : ℕ) → AreBytes x → front_of false last x ≡ Hello size → (x ≡ greeting_bytes (greeting_at x) ++ drop size x) × (length (greeting_at x).caps ≤ 3)

@@ -1,7 +1,8 @@
 -- The canonical bytes of a bus packet's body, and which values have none.
 use Rattle.std.specs.Prelude.{◌≡◌, ℕ, ◌+◌, ◌/◌, ◌%◌, Bool, true, false, not, ◌&&◌, nat_lt, nat_eq, if◌then◌else◌, List, [], ◌∷◌, length, Option, Some, None}
 use Rattle.cosim_model.specs.Packets.{BusFields, is_extended}
-use Rattle.rp_header.specs.Numbers.{be, joined, IsFieldAt}
+use Rattle.std.specs.List.{concat}
+use Rattle.rp_header.specs.Numbers.{be, IsFieldAt}
 use Rattle.rp_busaccess.specs.Buses.{data_count}
 use Rattle.rp_busaccess.specs.declared.fault.WriteFault.{WriteFault}
 use Rattle.rp_busaccess.specs.declared.fault.WriteFault.TheVariants.{MasterTooWide, DataCount, EnablesInOld, TooLong, NoMemory}
@@ -11,13 +12,13 @@ abbrev pub enables_place : BusFields → ℕ
 enables_place f = if nat_eq (length f.enables) 0 then 0 else 80 + length f.payload
 
 abbrev pub start_bytes : BusFields → List ℕ
-start_bytes f = joined (be f.time 8 ∷ be f.attributes 8 ∷ be f.addr 8 ∷ be f.len 4 ∷ be f.width 4 ∷ be f.stream_width 4 ∷ be (f.master % 65536) 2 ∷ [])
+start_bytes f = concat (be f.time 8 ∷ be f.attributes 8 ∷ be f.addr 8 ∷ be f.len 4 ∷ be f.width 4 ∷ be f.stream_width 4 ∷ be (f.master % 65536) 2 ∷ [])
 
 abbrev pub more_bytes : BusFields → List ℕ
-more_bytes f = joined (be (f.master / 65536 % 65536) 2 ∷ be (f.master / 4294967296) 4 ∷ be 80 4 ∷ be 0 4 ∷ be (enables_place f) 4 ∷ be (length f.enables) 4 ∷ [])
+more_bytes f = concat (be (f.master / 65536 % 65536) 2 ∷ be (f.master / 4294967296) 4 ∷ be 80 4 ∷ be 0 4 ∷ be (enables_place f) 4 ∷ be (length f.enables) 4 ∷ [])
 
 abbrev pub bus_bytes : BusFields → List ℕ
-bus_bytes f = if is_extended f then joined (start_bytes f ∷ more_bytes f ∷ f.payload ∷ f.enables ∷ []) else joined (start_bytes f ∷ f.payload ∷ [])
+bus_bytes f = if is_extended f then concat (start_bytes f ∷ more_bytes f ∷ f.payload ∷ f.enables ∷ []) else concat (start_bytes f ∷ f.payload ∷ [])
 
 abbrev pub bus_size : BusFields → ℕ
 bus_size f = if is_extended f then 60 + length f.payload + length f.enables else 38 + length f.payload

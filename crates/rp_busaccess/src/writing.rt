@@ -1,5 +1,6 @@
 ghost use Rattle.std.specs.Prelude.{◌≡◌, ◌<◌, ◌≤◌, ◌+◌, ◌-◌, ◌/◌, ◌%◌, ◌++◌, ◌∷◌, [], None, Some, length, IfOk, IfErr, OnOk, OnErr, IsOk, if◌then◌else◌, nat_eq};
-ghost use Rattle.rp_header.specs.Numbers.{be, joined};
+ghost use Rattle.std.specs.List.{concat};
+ghost use Rattle.rp_header.specs.Numbers.{be};
 ghost use Rattle.rp_busaccess.specs.Bits.{fields_of};
 ghost use Rattle.rp_busaccess.specs.Writing.{bus_bytes, bus_size, write_fault, IsWriteFault, start_bytes};
 
@@ -106,7 +107,7 @@ impl BusAccess {
 
 /// The other fields of the extended layout.
 fn second_half(master: u64, place: u32, count: u32) -> [u8; 22]
-    ensures { result ≡ joined (be (master / 65536 % 65536) 2 ∷ be (master / 4294967296) 4 ∷ be 80 4 ∷ be 0 4 ∷ be place 4 ∷ be count 4 ∷ []) }
+    ensures { result ≡ concat (be (master / 65536 % 65536) 2 ∷ be (master / 4294967296) 4 ∷ be 80 4 ∷ be 0 4 ∷ be place 4 ∷ be count 4 ∷ []) }
 {
     let mut bytes = [0; 22];
     BigEndian::write_u16(&mut bytes[0..], (master / 65536 % 65536) as u16);

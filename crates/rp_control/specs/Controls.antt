@@ -2,7 +2,8 @@
 -- packet's first byte.
 use Rattle.std.specs.Prelude.{◌≡◌, ◌⊎◌, ℕ, ◌+◌, ◌*◌, ◌-◌, ◌^◌, ◌<◌, ◌≤◌, List, [], ◌∷◌, length, take, drop, slice_index}
 use Rattle.std.specs.List.{flat_map}
-use Rattle.rp_header.specs.Numbers.{be, field, IsFieldAt, joined}
+use Rattle.std.specs.List.{concat}
+use Rattle.rp_header.specs.Numbers.{be, field, IsFieldAt}
 
 -- each item is a number of four bytes
 pub record AreWords (ns : List ℕ) : Type 0 where
@@ -53,13 +54,13 @@ IsTightHello caps body = IsFieldAt 24 4 32 body × IsFieldAt 30 2 0 body × (len
 
 -- the canonical bytes: the capabilities stand right behind the fields, and nothing behind them
 abbrev pub hello_bytes : ℕ → ℕ → List ℕ → List ℕ
-hello_bytes major minor caps = joined (be major 2 ∷ be minor 2 ∷ be 32 4 ∷ be (length caps) 2 ∷ be 0 2 ∷ caps_bytes caps ∷ [])
+hello_bytes major minor caps = concat (be major 2 ∷ be minor 2 ∷ be 32 4 ∷ be (length caps) 2 ∷ be 0 2 ∷ caps_bytes caps ∷ [])
 
 abbrev pub cfg_bytes : ℕ → ℕ → List ℕ
-cfg_bytes opt set = joined (be opt 4 ∷ be set 1 ∷ [])
+cfg_bytes opt set = concat (be opt 4 ∷ be set 1 ∷ [])
 
 abbrev pub interrupt_bytes : ℕ → ℕ → ℕ → ℕ → List ℕ
-interrupt_bytes time vector line val = joined (be time 8 ∷ be vector 8 ∷ be line 4 ∷ be val 1 ∷ [])
+interrupt_bytes time vector line val = concat (be time 8 ∷ be vector 8 ∷ be line 4 ∷ be val 1 ∷ [])
 
 abbrev pub sync_bytes : ℕ → List ℕ
 sync_bytes time = be time 8

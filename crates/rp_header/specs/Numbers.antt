@@ -23,11 +23,6 @@ IsFieldAt place k n body = IsNumberAt (place - 20) k n body
 abbrev pub field : ℕ → ℕ → List ℕ → ℕ
 field place k body = number k (drop (place - 20) body)
 
--- pieces, one behind the other
-abbrev pub joined : List (List ℕ) → List ℕ
-joined [] = []
-joined (piece ∷ pieces) = piece ++ joined pieces
-
 -- each item is a byte
 pub record AreBytes (b : List ℕ) : Type 0 where
   pub each : (i : ℕ) → slice_index b i < 256

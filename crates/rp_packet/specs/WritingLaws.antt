@@ -4,7 +4,8 @@ use Rattle.std.specs.Prelude.{not, ◌&&◌, nat_lt, nat_eq, if◌then◌else◌
 use Rattle.std.proofs.lemmas.List.{length-append, append_assoc}
 use Rattle.std.proofs.lemmas.Bool.Decides.{nat_tests, leb_tells}
 use Rattle.cosim_model.specs.Packets.{BusFields, is_extended}
-use Rattle.rp_header.specs.Numbers.{be, joined}
+use Rattle.std.specs.List.{concat}
+use Rattle.rp_header.specs.Numbers.{be}
 use Rattle.rp_header.specs.NumberLaws.{length-be}
 use Rattle.rp_header.specs.Headers.{header_bytes}
 use Rattle.rp_control.specs.Controls.{hello_bytes, caps_bytes}
@@ -38,7 +39,7 @@ length-more f =
     (piece (be (length f.enables) 4) [] 4 0 (length-be (length f.enables) 4) refl)))))
 
 length-laid : (x : Bool) (f : BusFields) →
-    length (if x then joined (start_bytes f ∷ more_bytes f ∷ f.payload ∷ f.enables ∷ []) else joined (start_bytes f ∷ f.payload ∷ []))
+    length (if x then concat (start_bytes f ∷ more_bytes f ∷ f.payload ∷ f.enables ∷ []) else concat (start_bytes f ∷ f.payload ∷ []))
     ≡ (if x then 60 + length f.payload + length f.enables else 38 + length f.payload)
 length-laid true f =
     let all = piece (start_bytes f) _ 38 _ (length-start f) (piece (more_bytes f) _ 22 _ (length-more f) (piece f.payload _ (length f.payload) _ refl (piece f.enables [] (length f.enables) 0 refl refl))) in
