@@ -1,7 +1,8 @@
 -- The rules that speak of several keys at once.
-use Rattle.std.specs.Prelude.{ℕ, ◌+◌, Bool, true, false, ◌&&◌, nat_lt, nat_eq, if◌then◌else◌, codes, List, [], ◌∷◌, length, Option, Some, None}
+use Rattle.std.specs.Prelude.{ℕ, ◌+◌, Bool, true, false, ◌&&◌, nat_lt, nat_eq, if◌then◌else◌, codes, List, [], ◌∷◌, length, Option, Some, None, option_map}
 use Rattle.toml.specs.Data.{Data, array, table, Items, no_items, item, Members, get_member}
-use Rattle.cos_config.specs.declared.rules.Part.{Part}
+use Rattle.cos_map.specs.declared.parts.Part.{Part}
+use Rattle.cos_map.specs.Parts.{overlap_found, with_windows}
 use Rattle.cos_config.specs.declared.config.PortConfig.{PortConfig}
 use Rattle.cos_config.specs.declared.config.PortKind.{PortKind}
 use Rattle.cos_config.specs.declared.config.PortKind.TheVariants.{Null, Dma}
@@ -9,6 +10,7 @@ use Rattle.cos_config.specs.declared.config.Config.{Config}
 use Rattle.cos_config.specs.declared.config.Sockets.{Sockets}
 use Rattle.cos_config.specs.declared.config.Sockets.TheVariants.{Unneeded, All, Port}
 use Rattle.cos_config.specs.declared.fault.TableName.TheVariants.{Top, Machine, Port as PortTable}
+use Rattle.cos_config.specs.declared.fault.ConfigFault.{ConfigFault}
 use Rattle.cos_config.specs.declared.fault.ConfigFault.TheVariants.{Missing, Kind, TooMany, Overlap, LineTwice, Needs}
 use Rattle.cos_config.specs.First.{Found, or_else, first_of}
 use Rattle.cos_config.specs.Keys.{table_found, unknown_found}
@@ -60,30 +62,17 @@ tables_found sockets m = first_of (
     ∷ each_port_found sockets 0 (port_tables m)
     ∷ [])
 
--- Parts of the address space, which has 2 ^ 32 addresses.
+-- Parts of the address space.
 
-abbrev pub passes_end : Part → Bool
-passes_end x = nat_lt 4294967296 (x.base + x.size)
-
-abbrev pub share_an_address : Part → Part → Bool
-share_an_address x y = nat_lt x.base (y.base + y.size) && nat_lt y.base (x.base + x.size)
-
--- the first of the later parts, of which the first has number `b`, that shares an address with part `a`
-abbrev pub shared_found : ℕ → Part → ℕ → List Part → Found
-shared_found a x b [] = None
-shared_found a x b (y ∷ ys) = if share_an_address x y then Some (Overlap a b) else shared_found a x (b + 1) ys
-
-abbrev pub overlap_found : ℕ → List Part → Found
-overlap_found a [] = None
-overlap_found a (x ∷ xs) = first_of ((if passes_end x then Some (Overlap a a) else None) ∷ shared_found a x (a + 1) xs ∷ overlap_found (a + 1) xs ∷ [])
+abbrev pub overlap_fault : ℕ × ℕ → ConfigFault
+overlap_fault p = Overlap p.0 p.1
 
 abbrev pub windows : List PortConfig → List Part
 windows [] = []
 windows (p ∷ ps) = record { base = p.base; size = p.size } ∷ windows ps
 
--- RAM begins at 0x80000000; the system block is one page at 0x00100000.
 abbrev pub parts : Config → List Part
-parts c = record { base = 2147483648; size = c.ram } ∷ record { base = 1048576; size = 4096 } ∷ windows c.ports
+parts c = with_windows c.ram (windows c.ports)
 
 -- Lines.
 
@@ -120,7 +109,7 @@ served_found (Port p) count = if nat_lt p count then None else Some (Missing (Po
 served_found _ count = None
 
 abbrev pub parts_found : Sockets → Config → Found
-parts_found sockets c = first_of (overlap_found 0 (parts c) ∷ lines_found 0 c.ports ∷ needs_found 0 c.ports ∷ served_found sockets (length c.ports) ∷ [])
+parts_found sockets c = first_of (option_map overlap_fault (overlap_found 0 (parts c)) ∷ lines_found 0 c.ports ∷ needs_found 0 c.ports ∷ served_found sockets (length c.ports) ∷ [])
 
 -- The first rule that a table of the top level breaks.
 abbrev pub config_found : Sockets → Members → Found

@@ -1,100 +1,39 @@
 // The rules that speak of several ports at once.
-ghost use Rattle.std.specs.Prelude.{◌≡◌, ◌⊎◌, MatchOption, codes, ℕ, ◌+◌, ◌<◌, ◌≤◌, List, [], ◌∷◌, ◌++◌, Option, Some, None, IfOk, length, drop, slice_index_or};
-ghost use Rattle.cos_config.specs.Rules.{overlap_found, shared_found, passes_end, share_an_address, parts, windows, lines_found, line_found, has_line, needs_found, port_needs, parts_found};
+ghost use Rattle.std.specs.Prelude.{◌≡◌, ◌⊎◌, option_map, MatchOption, codes, ℕ, ◌+◌, ◌<◌, ◌≤◌, List, [], ◌∷◌, ◌++◌, Option, Some, None, IfOk, length, drop, slice_index_or};
+ghost use Rattle.cos_map.specs.Parts.{overlap_found};
+ghost use Rattle.cos_config.specs.Rules.{overlap_fault, parts, windows, lines_found, line_found, has_line, needs_found, port_needs, parts_found};
 ghost use Rattle.cos_config.specs.First.{Refuses};
 
 use crate::{Config, ConfigFault, Name, PortConfig, PortKind, Sockets, TableName};
 use cos_base::NoMemory;
+use cos_map::{Part, overlap, push_part, without_windows};
 use std::alloc::Global;
-
-/// A part of the address space, which has 2^32 addresses.
-#[derive(Clone, Copy)]
-pub struct Part {
-    pub base: u32,
-    pub size: u32,
-}
-
-fn passes_the_end(part: Part) -> bool
-    ensures { result ≡ passes_end part }
-{
-    part.base as u64 + part.size as u64 > 1 << 32
-}
-
-fn shares_an_address(one: Part, other: Part) -> bool
-    ensures { result ≡ share_an_address one other }
-{
-    (one.base as u64) < other.base as u64 + other.size as u64
-        && (other.base as u64) < one.base as u64 + one.size as u64
-}
 
 /// RAM, the system block and the windows, by part number.
 fn parts_of(alloc: Global, config: &Config) -> Result<Vec<Part>, NoMemory>
     ensures { IfOk result (λ v. v.items ≡ parts config.now) }
 {
-    let mut all = Vec::new(alloc);
-    let ram = Part {
-        base: 0x8000_0000,
-        size: config.ram,
-    };
-    let system = Part {
-        base: 0x0010_0000,
-        size: 4096,
-    };
-    push(&mut all, ram)?;
-    push(&mut all, system)?;
+    let mut all = without_windows(alloc, config.ram)?;
     for port in config.ports.as_slice() {
         let window = Part {
             base: port.base,
             size: port.size,
         };
-        push(&mut all, window)?;
+        push_part(&mut all, window)?;
     }
     Ok(all)
 }
 
-fn push(all: &mut Vec<Part>, part: Part) -> Result<(), NoMemory>
-    ensures { IfOk result (λ _. all.new.items ≡ all.old.items ++ part ∷ []) }
-{
-    match all.push(part) {
-        Ok(()) => Ok(()),
-        Err(_) => Err(NoMemory),
-    }
-}
-
-/// The first part behind part `a` that shares an address with it.
-fn shared(all: &[Part], a: usize) -> Option<ConfigFault>
-    requires here { a < length all.now }
+/// The first two parts that share an address, or a part that passes the end.
+fn overlapping(all: &[Part]) -> Option<ConfigFault>
     requires few { length all.now ≤ 18 }
-    ensures { result ≡ shared_found a (slice_index_or all.now a (record { base = 0; size = 0 })) (a + 1) (drop (a + 1) all.now) }
+    ensures { result ≡ option_map overlap_fault (overlap_found 0 all.now) }
 {
-    for b in a + 1..all.len() {
-        if shares_an_address(all[a], all[b]) {
-            return Some(ConfigFault::Overlap {
-                a: a as u32,
-                b: b as u32,
-            });
-        }
-    }
-    None
-}
-
-/// The first pair of parts that share an address, or a part that passes the end.
-fn overlap(all: &[Part]) -> Option<ConfigFault>
-    requires few { length all.now ≤ 18 }
-    ensures { result ≡ overlap_found 0 all.now }
-{
-    for a in 0..all.len() {
-        if passes_the_end(all[a]) {
-            return Some(ConfigFault::Overlap {
-                a: a as u32,
-                b: a as u32,
-            });
-        }
-        if let Some(fault) = shared(all, a) {
-            return Some(fault);
-        }
-    }
-    None
+    let (a, b) = overlap(all)?;
+    Some(ConfigFault::Overlap {
+        a: a as u32,
+        b: b as u32,
+    })
 }
 
 fn port_has_line(port: &PortConfig, line: u32) -> bool
@@ -174,7 +113,7 @@ pub fn broken(alloc: Global, config: &Config, sockets: Sockets) -> Option<Config
         Ok(parts) => parts,
         Err(NoMemory) => return Some(ConfigFault::NoMemory),
     };
-    if let Some(fault) = overlap(&parts) {
+    if let Some(fault) = overlapping(&parts) {
         return Some(fault);
     }
     let ports = config.ports.as_slice();

@@ -1,4 +1,4 @@
-use Rattle.std.specs.Prelude.{map, is_some, option_and_then, unwrap_or, codes, nat_le, nat_eq, ◌&&◌, if◌then◌else◌, nat_lt, IsSome, ℤ, pos, negsuc}
+use Rattle.std.specs.Prelude.{map, is_some, option_map, option_and_then, unwrap_or, codes, nat_le, nat_eq, ◌&&◌, if◌then◌else◌, nat_lt, IsSome, ℤ, pos, negsuc}
 use Rattle.std.proofs.Common.{ℕ, ◌≡◌, ◌+◌, ◌%◌, ◌<◌, ◌≤◌, zero, suc, Bool, true, false, List, [], ◌∷◌, ◌++◌, length, Option, Some, None, refl, sym, ap, ◌∙◌, subst, arith}
 use Rattle.std.proofs.lemmas.Bool.{leb-true, eqb-true, ltb-false}
 use Rattle.toml.specs.Data.{Data, string, integer, Members, get_member}
@@ -15,7 +15,8 @@ use Rattle.cos_config.specs.First.{Found, or_else, first_of}
 use Rattle.cos_config.specs.Keys.{Shape, A_word, A_number, A_text, Key, is_within, number_in, number_found, value_found, at_found, key_found, name_of, unknown_found, keys_found, table_found}
 use Rattle.cos_config.specs.Tables.{as_text, text_at, machine_kind_of, port_kind_of, machine_kind_at, port_kind_at, required_key, optional_key, machine_keys, port_keys}
 use Rattle.cos_config.specs.Settings.{number_at, port_with, port_of, ports_of, config_with, machine_of, machine_table, port_tables, config_of}
-use Rattle.cos_config.specs.Rules.{needs_socket, port_found, each_port_found, too_many_found, top_found, tables_found, parts_found, config_found, overlap_found, parts}
+use Rattle.cos_map.specs.Parts.{overlap_found}
+use Rattle.cos_config.specs.Rules.{needs_socket, port_found, each_port_found, too_many_found, top_found, tables_found, parts_found, config_found, overlap_fault, parts}
 use Rattle.cosim_inputs.specs.Limits.{IsPort, ArePorts, IsMachine, IsWithinLimits}
 
 -- Where nothing is found by one rule or the next, both are kept.
@@ -216,6 +217,10 @@ machine-kept m ports none =
     let both = or_else-none (unknown_found Machine (map name_of keys) m) (keys_found Machine m keys) none in
     machine-said m (machine_kind_at m) ports refl (keys-kept Machine m keys both.1)
 
+unmapped : (o : Option (ℕ × ℕ)) → option_map overlap_fault o ≡ None → o ≡ None
+unmapped None none = refl
+unmapped (Some p) none = absurd (cc)
+
 -- A configuration that breaks no rule is within limits.
 pub kept-within : (sockets : Sockets) (m : Members) → config_found sockets m ≡ None → IsWithinLimits (config_of m)
 kept-within sockets m none =
@@ -225,10 +230,10 @@ kept-within sockets m none =
     let few = or_else-none (too_many_found (length (port_tables m))) (first_of (each_port_found sockets 0 (port_tables m) ∷ [])) machine.1 in
     let each = or_else-none (each_port_found sockets 0 (port_tables m)) None few.1 in
     let whole = or_else-none (parts_found sockets (config_of m)) None rest.1 in
-    let apart = or_else-none (overlap_found 0 (parts (config_of m))) _ whole.0 in
+    let apart = or_else-none (option_map overlap_fault (overlap_found 0 (parts (config_of m)))) _ whole.0 in
     record {
       machine = machine-kept (machine_table m) (ports_of (port_tables m)) machine.0;
       few = subst (λ n. n ≤ 16) (sym (length-ports_of (port_tables m))) (few-kept (length (port_tables m)) few.0);
       ports = ports-kept sockets 0 (port_tables m) each.0;
-      apart = apart.0;
+      apart = unmapped (overlap_found 0 (parts (config_of m))) apart.0;
     }

@@ -6,7 +6,8 @@ use Rattle.cos_config.specs.declared.config.PortKind.{PortKind}
 use Rattle.cos_config.specs.declared.config.PortKind.TheVariants.{Disk}
 use Rattle.cos_config.specs.declared.config.PortConfig.{PortConfig}
 use Rattle.cos_config.specs.declared.config.Config.{Config}
-use Rattle.cos_config.specs.Rules.{parts, overlap_found}
+use Rattle.cos_map.specs.Parts.{overlap_found}
+use Rattle.cos_config.specs.Rules.{parts}
 
 pub record IsPort (p : PortConfig) : Type 0 where
   pub base : p.base % 4096 ≡ 0

@@ -1,8 +1,10 @@
 // The address map.
 ghost use Rattle.std.specs.Prelude.{◌≡◌, ◌+◌, ◌<◌, ◌^◌, ◌++◌, [], ◌∷◌, length, drop, slice_index_or, IsTrue, IfOk, OnOk, IfSome, Some, None, ◌≤◌};
-ghost use Rattle.sys_bus.specs.Maps.{passes_end, share_an_address, shared_found, overlap_found, misaligned, misaligned_found, parts_of, AreApart, holds, window_from, Maps};
+ghost use Rattle.cos_map.specs.Parts.{AreApart};
+ghost use Rattle.sys_bus.specs.Maps.{misaligned, misaligned_found, parts_of, holds, window_from, Maps};
 
 use cos_base::NoMemory;
+use cos_map::{Part, overlap, push_part, without_windows};
 use std::alloc::Global;
 use std::marker::Model;
 
@@ -26,13 +28,6 @@ pub enum MapFault {
     /// is the system block and part 2 + p is window p.
     Overlap { a: u64, b: u64 },
     NoMemory,
-}
-
-/// A part of the address space.
-#[derive(Clone, Copy)]
-pub struct Part {
-    pub base: u32,
-    pub size: u32,
 }
 
 /// Windows to ports, beside RAM and the system block. No two parts of it share an address.
@@ -59,19 +54,6 @@ fn is_misaligned(window: Window) -> bool
     window.base % 4096 != 0 || window.size % 4096 != 0 || window.size == 0
 }
 
-fn passes_the_end(part: Part) -> bool
-    ensures { result ≡ passes_end part }
-{
-    part.base as u64 + part.size as u64 > 1 << 32
-}
-
-fn shares_an_address(one: Part, other: Part) -> bool
-    ensures { result ≡ share_an_address one other }
-{
-    (one.base as u64) < other.base as u64 + other.size as u64
-        && (other.base as u64) < one.base as u64 + one.size as u64
-}
-
 /// The first window that is misaligned.
 fn misaligned_window(windows: &[Window]) -> Option<MapFault>
     ensures { result ≡ misaligned_found 0 windows.now }
@@ -90,68 +72,15 @@ fn misaligned_window(windows: &[Window]) -> Option<MapFault>
 fn parts(alloc: Global, windows: &[Window], ram: u32) -> Result<Vec<Part>, NoMemory>
     ensures { IfOk result (λ v. v.items ≡ parts_of windows.now ram) }
 {
-    let mut all = Vec::new(alloc);
-    let ram = Part {
-        base: 0x8000_0000,
-        size: ram,
-    };
-    let system = Part {
-        base: 0x0010_0000,
-        size: 4096,
-    };
-    push(&mut all, ram)?;
-    push(&mut all, system)?;
+    let mut all = without_windows(alloc, ram)?;
     'windows: for window in windows {
         let part = Part {
             base: window.base,
             size: window.size,
         };
-        push(&mut all, part)?;
+        push_part(&mut all, part)?;
     }
     Ok(all)
-}
-
-fn push(all: &mut Vec<Part>, part: Part) -> Result<(), NoMemory>
-    ensures { IfOk result (λ _. all.new.items ≡ all.old.items ++ part ∷ []) }
-{
-    match all.push(part) {
-        Ok(()) => Ok(()),
-        Err(_) => Err(NoMemory),
-    }
-}
-
-/// The first part behind part `a` that shares an address with it.
-fn shared(all: &[Part], a: usize) -> Option<MapFault>
-    requires { a < length all.now }
-    ensures { result ≡ shared_found a (slice_index_or all.now a (record { base = 0; size = 0 })) (a + 1) (drop (a + 1) all.now) }
-{
-    'others: for b in a + 1..all.len() {
-        if shares_an_address(all[a], all[b]) {
-            return Some(MapFault::Overlap {
-                a: a as u64,
-                b: b as u64,
-            });
-        }
-    }
-    None
-}
-
-/// The first pair of parts that share an address, or a part that passes the end.
-fn overlap(all: &[Part]) -> Option<MapFault>
-    ensures { result ≡ overlap_found 0 all.now }
-{
-    'parts: for a in 0..all.len() {
-        if passes_the_end(all[a]) {
-            return Some(MapFault::Overlap {
-                a: a as u64,
-                b: a as u64,
-            });
-        }
-        if let Some(fault) = shared(all, a) {
-            return Some(fault);
-        }
-    }
-    None
 }
 
 impl Map {
@@ -168,8 +97,11 @@ impl Map {
             Ok(parts) => parts,
             Err(NoMemory) => return Err(MapFault::NoMemory),
         };
-        if let Some(fault) = overlap(&parts) {
-            return Err(fault);
+        if let Some((a, b)) = overlap(&parts) {
+            return Err(MapFault::Overlap {
+                a: a as u64,
+                b: b as u64,
+            });
         }
         // a port has a number below 2^32
         if windows.len() >= 1 << 32 {

@@ -1,6 +1,6 @@
 use Rattle.std.proofs.Common.{◌≡◌, ◌+◌, drop, get_or}
-use Rattle.sys_bus.specs.Maps.{shared_found}
-use Rattle.sys_bus.proofs.map.shared.Given as goal
+use Rattle.cos_map.specs.Parts.{shared_found}
+use Rattle.cos_map.proofs.parts.shared.Given as goal
 
 abbrev pub invariant-others : goal.invariant-others
 invariant-others l =
