@@ -60,9 +60,7 @@ pub fn read_hexadecimal(word: &[u8]) -> Option<u64>
     ensures some { IfSome result (λ n. (n < 2 ^ 64) × (word.now ≡ numbers.hex_text n)) }
     ensures exact { (n : ℕ) → n < 2 ^ 64 → word.now ≡ numbers.hex_text n → result ≡ Some n }
 {
-    let [b'0', b'x', digits @ ..] = word else {
-        return None;
-    };
+    let digits = word.strip_prefix(b"0x")?;
     let number = value_of(16, digits)?;
     if Hexadecimal::of(number).as_slice() == digits {
         Some(number)

@@ -2,8 +2,8 @@
 ghost use Rattle.std.specs.Prelude.{map, string_bytes};
 ghost use Rattle.cosim_status.specs.Lines.{TellsStatus};
 ghost use Rattle.cosim_status.specs.Outcomes.{seen};
-ghost use Rattle.cosim_cli.specs.Promises.{Promises};
-ghost use Rattle.cosim_cli.specs.Words.{Uses, StopsAt};
+ghost use Rattle.cosim_cli.specs.Promises.{Keeps, Promises};
+ghost use Rattle.cosim_cli.specs.Words.{Uses, StopsAt, asked};
 
 use crate::device::device;
 use crate::help::help;
@@ -14,6 +14,37 @@ use cosim_direct::direct;
 use cosim_packets::{pack, show};
 use cosim_status::{Status, tell_status};
 use std::alloc::Global;
+
+/// Does a command.
+fn perform<F: Files, K: Sink, N: Network>(
+    alloc: Global,
+    command: Command<'_>,
+    files: &mut F,
+    out: &mut K,
+    net: &mut N,
+) -> Status
+    ensures { Keeps (asked command.entry) (record {
+      files = seen F.count F.told files.old files.new;
+      out = seen K.count K.told out.old out.new;
+      net = seen N.count N.told net.old net.new;
+      sound_files = F.sound files.old;
+      sound_out = K.sound out.old;
+      sound_net = N.sound net.old;
+      room = K.room out.old;
+      told = N.Link.told;
+      count = N.Link.count;
+    }) result }
+{
+    match command {
+        Command::Device { socket } => device(alloc, socket, net),
+        Command::Show { file } => show(alloc, file, files, out),
+        Command::Pack { file } => pack(alloc, file, files, out),
+        Command::Asm { file, out: target } => asm(alloc, file, target, files),
+        Command::Dis { file } => dis(alloc, file, files, out),
+        Command::Direct { config } => direct(alloc, config, files, out),
+        Command::Help => help(out),
+    }
+}
 
 /// The program. `words` are those after its name; the line of a status other than Done goes to `err`.
 ///
@@ -52,13 +83,7 @@ pub fn cosim<F: Files, K: Sink, E: Sink, N: Network>(
     ensures line { TellsStatus (E.count err.old) (E.count err.new) (E.told err.old) (E.told err.new) result }
 {
     let status = match command_of(words) {
-        Ok(Command::Device { socket }) => device(alloc, socket, net),
-        Ok(Command::Show { file }) => show(alloc, file, files, out),
-        Ok(Command::Pack { file }) => pack(alloc, file, files, out),
-        Ok(Command::Asm { file, out: target }) => asm(alloc, file, target, files),
-        Ok(Command::Dis { file }) => dis(alloc, file, files, out),
-        Ok(Command::Direct { config }) => direct(alloc, config, files, out),
-        Ok(Command::Help) => help(out),
+        Ok(command) => perform(alloc, command, files, out, net),
         Err(index) => Status::Usage { index },
     };
     tell_status(err, &status);

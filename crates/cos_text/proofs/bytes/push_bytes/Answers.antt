@@ -1,6 +1,6 @@
-use Rattle.std.proofs.Common.{◌≡◌, ◌*◌, ◌++◌, length, drop, ◌∙◌, ap, arith, length-append, length-drop}
+use Rattle.std.proofs.Common.{◌≡◌, ◌+◌, ◌*◌, ◌++◌, length, drop, ◌∙◌, ap, arith, length-append, length-drop}
 use Rattle.std.proofs.lemmas.Bool.Decides.{nat_tests}
-use Rattle.hex.specs.Hex.{lower_digits}
+use Rattle.hex.specs.Hex.{lower_digits, encode_lower}
 use Rattle.hex.proofs.HexLemmas.{length-encode_with}
 use Rattle.cos_text.proofs.Puts.{put-chunk, put-done}
 use Rattle.cos_text.proofs.bytes.push_bytes.Goals as goal
@@ -20,3 +20,9 @@ pub returns-clause-bytes : goal.returns-clause-bytes
 returns-clause-bytes c =
     let none : length c.loop-rest.rest.now ≡ 0 = grind (arith, nat_tests) in
     put-done _ c.loop-rest.rest.now _ none c.loop-rest.invariant.put
+
+pub returns-clause-room : goal.returns-clause-room
+returns-clause-room c =
+    let none : length c.loop-rest.rest.now ≡ 0 = grind (arith, nat_tests) in
+    let all = ap length (returns-clause-bytes c) in
+    omega (arith, all, length-append c.args.out.now.bytes (encode_lower c.args.bytes.now), length-encode_with lower_digits c.args.bytes.now)

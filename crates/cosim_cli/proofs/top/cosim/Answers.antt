@@ -1,19 +1,16 @@
 use Rattle.std.proofs.Common.{refl}
-use Rattle.cosim_cli.proofs.Helping.{helps}
-use Rattle.cosim_cli.proofs.top.perform.Goals as goal
+use Rattle.cosim_cli.proofs.Keeping.{kept-uses, kept-promises}
+use Rattle.cosim_cli.proofs.top.cosim.Goals as goal
+use Rattle.cosim_cli.proofs.top.cosim.Goals.{in-Ok, in-Err}
 
-pub returns-in-Asm : goal.returns-in-Asm
-returns-in-Asm g c =
-    rw c.in-Asm.is
-    (record {
-      net = record { count = refl; same = refl };
-      blames = c.asm.ensures.blames _;
-      ends = c.asm.ensures.ends _ (record { count = refl; same = refl });
-      sound = λ files out. c.asm.ensures.sound files _;
-      complete = λ files out. c.asm.ensures.complete files _;
-    })
+pub returns-clause-usage : goal.returns-clause-usage
+returns-clause-usage g c = elim c.match-command_of.branch [
+  | in-Ok w ↦ rw w.status-is (kept-uses _ _ _ _ w.in-Ok.ensures.ok w.perform-status.ensures)
+  | in-Err w ↦ rw w.status-is w.in-Err.ensures.err
+]
 
-pub returns-in-Help : goal.returns-in-Help
-returns-in-Help g c =
-    rw c.in-Help.is
-    (helps _ _ (record { count = refl; same = refl }) (record { count = refl; same = refl }) c.help.ensures.puts c.help.ensures.is_sound)
+pub returns-clause-promises : goal.returns-clause-promises
+returns-clause-promises g c = elim c.match-command_of.branch [
+  | in-Ok w ↦ rw w.files-is (rw w.out-is (rw w.net-is (rw w.status-is (kept-promises _ _ _ _ w.in-Ok.ensures.ok w.perform-status.ensures))))
+  | in-Err w ↦ rw w.files-is (rw w.out-is (rw w.net-is (rw w.status-is (record { count = refl; same = refl }, record { count = refl; same = refl }, record { count = refl; same = refl }))))
+]
