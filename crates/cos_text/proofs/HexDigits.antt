@@ -1,9 +1,6 @@
 -- The digits of a number in hexadecimal, made from the last one on.
-use Rattle.std.proofs.Common.{ℕ, ◌≡◌, ◌+◌, ◌-◌, ◌/◌, ◌%◌, ◌^◌, ◌<◌, ◌≤◌, zero, suc, Bool, false, cond, List, [], ◌∷◌, ap, arith, eq-eqb, ◌∙◌, sym, subst, drop, length, set}
-use Rattle.std.proofs.Common.{◌++◌, append_assoc, take, refl}
-use Rattle.std.specs.Prelude.{slice_index}
-use Rattle.std.proofs.lemmas.List.{drop-set, take-append-drop, append-nil}
-use Rattle.hex.specs.Hex.{encode_with, encode_lower, lower_digits}
+use Rattle.std.proofs.Common.{ℕ, ◌≡◌, ◌+◌, ◌-◌, ◌/◌, ◌%◌, ◌^◌, ◌<◌, ◌≤◌, zero, suc, Bool, false, cond, List, ◌∷◌, ap, arith, eq-eqb, ◌∙◌, sym, subst, drop, length, set}
+use Rattle.std.proofs.lemmas.List.{drop-set}
 use Rattle.cos_text.specs.Numbers.{hexadecimal}
 use Rattle.std.proofs.lemmas.Bool.{ne_eqb}
 use Rattle.std.proofs.Math.Nat.{pow-suc}

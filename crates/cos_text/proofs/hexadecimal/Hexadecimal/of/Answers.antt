@@ -1,4 +1,4 @@
-use Rattle.std.proofs.Common.{◌++◌, length-set, refl, ap, sym, ◌∙◌, arith}
+use Rattle.std.proofs.Common.{length-set, refl, sym, ◌∙◌, arith}
 use Rattle.std.specs.Fmt.{digits}
 use Rattle.cos_text.proofs.HexDigits.{written-more, written-all}
 use Rattle.cos_text.proofs.hexadecimal.Hexadecimal.of.Goals as goal
