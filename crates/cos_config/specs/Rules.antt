@@ -1,5 +1,5 @@
 -- The rules that speak of several keys at once.
-use Rattle.std.specs.Prelude.{ℕ, ◌+◌, Bool, true, false, ◌&&◌, nat_lt, nat_eq, if◌then◌else◌, codes, List, [], ◌∷◌, length, Option, Some, None, option_map}
+use Rattle.std.specs.Prelude.{ℕ, ◌+◌, Bool, true, false, nat_lt, nat_eq, if◌then◌else◌, codes, List, [], ◌∷◌, length, Option, Some, None, option_map}
 use Rattle.toml.specs.Data.{Data, array, table, Items, no_items, item, Members, get_member}
 use Rattle.cos_map.specs.declared.parts.Part.{Part}
 use Rattle.cos_map.specs.Parts.{overlap_found, with_windows}

@@ -1,5 +1,5 @@
 -- How a number stands in a list of bytes: unsigned, the most significant byte first.
-use Rattle.std.specs.Prelude.{◌≡◌, ℕ, ◌-◌, ◌^◌, ◌<◌, List, [], ◌∷◌, ◌++◌, take, drop, slice_index}
+use Rattle.std.specs.Prelude.{◌≡◌, ℕ, ◌-◌, ◌^◌, ◌<◌, List, take, drop, slice_index}
 use Rattle.byteorder.specs.Endian.{big_bytes, big_number}
 
 -- the k bytes of n
