@@ -1,30 +1,15 @@
 #!/usr/bin/env python3
 """Breaks each rule of a configuration, one by one, and reads what the built program says of it: `cosim direct`.
 
-The program is crates/cosim/out/cosim, where `rt ci` and `rt run` leave it; where it isn't there, `rt run` builds it.
 A row is a text and the fault that is named. Where a text breaks several rules, the first in the order of the rules is.
 The script ends with 1 on any mismatch.
 """
 
 import os
-import subprocess
 import sys
 import tempfile
 
-TOP = os.path.dirname(os.path.dirname(os.path.abspath(__file__)))
-CRATE = os.path.join(TOP, "crates", "cosim")
-PROGRAM = os.path.join(CRATE, "out", "cosim")
-SECONDS = 60
-
-failures = []
-
-
-def built():
-    """Builds the program where no run of the gate left it."""
-    if not os.path.exists(PROGRAM):
-        subprocess.run(["rt", "run"], cwd=CRATE, stdout=subprocess.DEVNULL, stderr=subprocess.DEVNULL, check=False)
-    if not os.path.exists(PROGRAM):
-        sys.exit(f"{PROGRAM} isn't there, and `rt run` in {CRATE} didn't build it")
+from support.program import built, check, run, told
 
 
 def table(head, settings, changes):
@@ -175,20 +160,15 @@ KEPT = [
 def try_text(folder, text, status, error):
     with open(os.path.join(folder, "c"), "wb") as file:
         file.write(text if isinstance(text, bytes) else text.encode())
-    ended = subprocess.run([PROGRAM, "direct", "c"], cwd=folder, stdin=subprocess.DEVNULL, capture_output=True, timeout=SECONDS, check=False)
-    got = (ended.returncode, ended.stdout, ended.stderr.decode())
-    if got != (status, b"", error):
-        failures.append(f"{text!r}: {got!r}, and not {(status, error)!r}")
+    ended = run(["direct", "c"], folder)
+    check(repr(text), "the end", (ended.returncode, ended.stdout, ended.stderr.decode()), (status, b"", error))
 
 
 built()
+rows = TEXTS + TOP_LEVEL + MACHINE + NUMBER_OF_PORTS + [(hart() + text, fault) for text, fault in PORTS + SEVERAL_PORTS]
 with tempfile.TemporaryDirectory() as folder:
-    rows = TEXTS + TOP_LEVEL + MACHINE + NUMBER_OF_PORTS + [(hart() + text, fault) for text, fault in PORTS + SEVERAL_PORTS]
     for text, fault in rows:
         try_text(folder, text, 2, f"cosim: config: {fault}\n")
     for text in KEPT:
         try_text(folder, text, 5, "cosim: outside: files 1\n")
-for failure in failures:
-    print(failure)
-print(f"configurations: {len(rows) + len(KEPT)} texts, {len(failures)} mismatches")
-sys.exit(1 if failures else 0)
+sys.exit(told("configurations"))
