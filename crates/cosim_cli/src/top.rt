@@ -1,6 +1,7 @@
 // The top call.
 ghost use Rattle.std.specs.Prelude.{map, string_bytes};
-ghost use Rattle.cosim_status.specs.Lines.{TellsStatus};
+ghost use Rattle.cosim_status.specs.Lines.{TellsStatus, line_of};
+ghost use Rattle.cosim_status.specs.Takes.{TakesAll};
 ghost use Rattle.cosim_status.specs.Outcomes.{seen};
 ghost use Rattle.cosim_cli.specs.Promises.{Keeps, Promises};
 ghost use Rattle.cosim_cli.specs.Words.{Uses, StopsAt, asked};
@@ -81,6 +82,8 @@ pub fn cosim<F: Files, K: Sink, E: Sink, N: Network>(
     }) result }
     // Nothing goes to `err` at Done, and else the line of the status, or a beginning of it where `err` fails.
     ensures line { TellsStatus (E.count err.old) (E.count err.new) (E.told err.old) (E.told err.new) result }
+    // A sound `err` takes all of the line where it has room.
+    ensures whole { TakesAll (E.sound err.old) (E.room err.old) (E.told err.old) (E.told err.new) (line_of result) }
 {
     let status = match command_of(words) {
         Ok(command) => perform(alloc, command, files, out, net),
@@ -96,6 +99,8 @@ pub fn misspelled<E: Sink>(words: &[String], err: &mut E) -> Status
     ensures usage { StopsAt (map string_bytes words.now) result }
     // The line of the status goes to `err`, or a beginning of it where `err` fails.
     ensures line { TellsStatus (E.count err.old) (E.count err.new) (E.told err.old) (E.told err.new) result }
+    // A sound `err` takes all of the line where it has room.
+    ensures whole { TakesAll (E.sound err.old) (E.room err.old) (E.told err.old) (E.told err.new) (line_of result) }
 {
     let index = stop_of(words);
     let status = Status::Usage { index };

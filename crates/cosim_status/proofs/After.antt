@@ -1,5 +1,5 @@
 -- Steps behind a file that was read are steps of the whole call.
-use Rattle.std.proofs.Common.{ℕ, ◌≡◌, ◌⊎◌, ◌<◌, ◌≤◌, List, [], ◌∷◌, length, IfSome, IsSomeAnd, IsSome, refl, ap, sym, ◌∙◌, subst, arith, inl, inr}
+use Rattle.std.proofs.Common.{ℕ, ◌≡◌, ◌≤◌, List, [], ◌∷◌, IfSome, IsSomeAnd, IsSome, refl, sym, ◌∙◌, subst}
 use Rattle.std.specs.declared.option.Option.{Option}
 use Rattle.std.specs.declared.option.Option.TheVariants.{Some, None}
 use Rattle.cos_base.specs.Counts.{Rose}
@@ -7,7 +7,7 @@ use Rattle.cos_base.specs.Stores.{Store, IsSet}
 use Rattle.cosim_status.specs.declared.status.Status.{Status}
 use Rattle.cosim_status.specs.declared.status.Status.TheVariants as status
 use Rattle.cosim_status.specs.declared.status.Object.TheVariants as object
-use Rattle.cosim_status.specs.Outcomes.{Seen, IsUntouched, IsBlamed, Blames, Stand, StandTold, StandBut}
+use Rattle.cosim_status.specs.Outcomes.{Seen, StandBut}
 use Rattle.cosim_status.specs.Steps.{IsStanding, IsRead, IsUnread, IsLacking, IsWritten}
 
 -- the files from the beginning of one step to the end of a later one

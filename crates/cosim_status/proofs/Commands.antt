@@ -1,15 +1,12 @@
 -- How the steps of a command make up its promise.
-use Rattle.std.proofs.Common.{ℕ, ◌≡◌, ◌⊎◌, ◌<◌, ◌≤◌, List, [], ◌∷◌, length, IfSome, IsSomeAnd, IsSome, refl, ap, sym, ◌∙◌, subst, arith, inl, inr}
+use Rattle.std.proofs.Common.{ℕ, ◌≡◌, List, [], ◌∷◌, IfSome, IsSomeAnd, IsSome, refl, ap, sym, ◌∙◌, subst, inl}
 use Rattle.std.specs.declared.option.Option.{Option}
 use Rattle.std.specs.declared.option.Option.TheVariants.{Some, None}
-use Rattle.std.specs.declared.result.Result.TheVariants.{Ok, Err}
-use Rattle.cos_base.specs.Counts.{Rose, Rises}
-use Rattle.cos_base.specs.Stores.{Store, IsSet, IsWith}
+use Rattle.cos_base.specs.Stores.{Store}
 use Rattle.cosim_status.specs.declared.status.Status.{Status}
 use Rattle.cosim_status.specs.declared.status.Status.TheVariants as status
-use Rattle.cosim_status.specs.declared.status.InputFault.{InputFault}
 use Rattle.cosim_status.specs.declared.status.Object.TheVariants as object
-use Rattle.cosim_status.specs.Outcomes.{Outcome, Lacks, Refuses, Prints, Writes, Judged, OfFile, Seen, IsUntouched, IsBlamed, Blames, Stand, StandTold, StandBut, Among, PrintsAll, PrintsPart, PrintsBefore, IsDone, Ends, Fits, Meets, MeetsOne, MeetsEach}
+use Rattle.cosim_status.specs.Outcomes.{Outcome, Lacks, Prints, Writes, Judged, OfFile, Seen, IsUntouched, Blames, Stand, StandTold, StandBut, Among, Ends, Meets, MeetsOne, MeetsEach}
 use Rattle.cosim_status.specs.Steps.{IsStanding, IsRead, IsUnread, IsLacking, IsPrinted, IsRoomFor, IsWritten, BlamesNone}
 
 -- What a file's bytes are judged to, the command comes to.

@@ -63,10 +63,6 @@ puts-longer None b p q e pre puts = tt
 puts-longer (Some x) None p q e pre puts = tt
 puts-longer (Some x) (Some now) p q e pre (part, fits, is) = (part, IsPrefix-trans part p q fits pre, is)
 
--- the same of a line that is given by an equation
-pub put-line : (before now : ℕ) (old new : Option (List ℕ)) (p q : List ℕ) → q ≡ p → IsPut before now old new p → IsPut before now old new q
-put-line before now old new p q is put = subst (λ t. IsPut before now old new t) (sym is) put
-
 -- a piece that failed, behind pieces that were put, is a beginning of all
 pub put-stops : (before mid now : ℕ) (a b c : Option (List ℕ)) (p q all : List ℕ) (e : Failed) → mid ≡ before → PutsAll a b p → Rises mid now → Puts b c q (Err e) → IsPrefix (p ++ q) all → IsPut before now a c all
 put-stops before mid now a b c p q all e same first rises then fits =
@@ -79,5 +75,8 @@ take-past (x ∷ ps) zero h = absurd (omega (arith, h))
 take-past (x ∷ ps) (suc n) h = ap (λ l. x ∷ l) (take-past ps n (omega (arith, h)))
 
 -- all pieces were put
+pub puts-whole : (a b : Option (List ℕ)) (ps : List (Bor (List ℕ))) (n : ℕ) → PutsAll a b (texts (take n ps)) → length ps ≤ n → PutsAll a b (texts ps)
+puts-whole a b ps n puts end = subst (λ l. PutsAll a b (texts l)) (take-past ps n end) puts
+
 pub put-whole : (before now : ℕ) (a b : Option (List ℕ)) (ps : List (Bor (List ℕ))) (n : ℕ) → now ≡ before → PutsAll a b (texts (take n ps)) → length ps ≤ n → IsPut before now a b (texts ps)
-put-whole before now a b ps n same puts end = (Ok tt, same, subst (λ l. PutsAll a b (texts l)) (take-past ps n end) puts)
+put-whole before now a b ps n same puts end = (Ok tt, same, puts-whole a b ps n puts end)

@@ -1,14 +1,10 @@
 -- How a refusal makes up the promise of a command.
-use Rattle.std.proofs.Common.{ℕ, ◌≡◌, ◌⊎◌, ◌<◌, ◌≤◌, List, [], ◌∷◌, length, IfSome, refl, ap, sym, ◌∙◌, subst, arith}
-use Rattle.std.specs.declared.option.Option.{Option}
-use Rattle.std.specs.declared.option.Option.TheVariants.{Some, None}
+use Rattle.std.proofs.Common.{ℕ, ◌≡◌, ◌≤◌, List, [], ◌∷◌, length, refl, arith}
 use Rattle.std.specs.declared.result.Result.{Result}
 use Rattle.std.specs.declared.result.Result.TheVariants.{Ok, Err}
 use Rattle.cos_base.specs.declared.sinks.Failed.{Failed}
 use Rattle.cos_base.specs.Counts.{Counts}
-use Rattle.cos_base.specs.Sinks.{Puts}
 use Rattle.cos_base.specs.Stores.{Store}
-use Rattle.cosim_status.specs.declared.status.Status.{Status}
 use Rattle.cosim_status.specs.declared.status.Status.TheVariants as status
 use Rattle.cosim_status.specs.declared.status.InputFault.{InputFault}
 use Rattle.cosim_status.specs.Lines.{IsPut}

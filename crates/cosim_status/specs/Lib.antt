@@ -2,3 +2,4 @@ pub mod Lines
 pub mod Outcomes
 pub mod Statuses
 pub mod Steps
+pub mod Takes

@@ -2,7 +2,8 @@
 ghost use Rattle.std.specs.Prelude.{◌≡◌, ◌∷◌, [], codes, decimal};
 ghost use Rattle.std.specs.Fmt.{signed_decimal};
 ghost use Rattle.std.specs.List.{concat};
-ghost use Rattle.cosim_status.specs.Lines.{IsPut, TellsStatus, before, texts, line_one, line_two, table_text as text_of_table, asm_text as text_of_cause, key_line, config_line, cause_text, malformed_line, input_line, peer_line, outside_line, line_of};
+ghost use Rattle.cosim_status.specs.Lines.{TellsStatus, before, texts, line_one, line_two, table_text as text_of_table, asm_text as text_of_cause, key_line, config_line, cause_text, malformed_line, input_line, peer_line, outside_line, line_of};
+ghost use Rattle.cosim_status.specs.Takes.{Takes, TakesAll};
 
 use crate::status::{InputFault, Object, Status};
 use cos_base::{Failed, Sink};
@@ -14,7 +15,7 @@ use rv_asm::Cause as AsmCause;
 
 /// Puts pieces of text, one after another, as far as none fails.
 fn put_all<E: Sink>(err: &mut E, pieces: &[&str])
-    ensures { IsPut (E.count err.old) (E.count err.new) (E.told err.old) (E.told err.new) (texts pieces.now) }
+    ensures { Takes E.told E.count E.room E.sound err.old err.new (texts pieces.now) }
 {
     'pieces: for piece in pieces {
         match err.put(piece.as_bytes()) {
@@ -26,7 +27,7 @@ fn put_all<E: Sink>(err: &mut E, pieces: &[&str])
 
 /// Puts a line that ends in a number.
 fn put_one<E: Sink>(err: &mut E, front: &str, number: u64)
-    ensures { IsPut (E.count err.old) (E.count err.new) (E.told err.old) (E.told err.new) (line_one front.now number) }
+    ensures { Takes E.told E.count E.room E.sound err.old err.new (line_one front.now number) }
 {
     let mut first = Buffer::new();
     put_all(err, &[front, first.format(number), "\n"]);
@@ -34,7 +35,7 @@ fn put_one<E: Sink>(err: &mut E, front: &str, number: u64)
 
 /// Puts a line that ends in two numbers.
 fn put_two<E: Sink>(err: &mut E, front: &str, number: u64, other: u64)
-    ensures { IsPut (E.count err.old) (E.count err.new) (E.told err.old) (E.told err.new) (line_two front.now number other) }
+    ensures { Takes E.told E.count E.room E.sound err.old err.new (line_two front.now number other) }
 {
     let mut first = Buffer::new();
     let mut second = Buffer::new();
@@ -57,7 +58,7 @@ fn table_text(table: TableName, buffer: &mut Buffer) -> &str
 
 /// Puts the line of a fault at a key of a table.
 fn put_key<E: Sink>(err: &mut E, front: &str, table: TableName, key: &str)
-    ensures { IsPut (E.count err.old) (E.count err.new) (E.told err.old) (E.told err.new) (key_line front.now table key.now) }
+    ensures { Takes E.told E.count E.room E.sound err.old err.new (key_line front.now table key.now) }
 {
     let mut buffer = Buffer::new();
     let table = table_text(table, &mut buffer);
@@ -66,7 +67,7 @@ fn put_key<E: Sink>(err: &mut E, front: &str, table: TableName, key: &str)
 
 /// Puts the line of a number that is out of range.
 fn put_range<E: Sink>(err: &mut E, table: TableName, key: &str, value: &i64)
-    ensures { IsPut (E.count err.old) (E.count err.new) (E.told err.old) (E.told err.new) (concat (codes "cosim: config: Range " ∷ text_of_table table ∷ codes " " ∷ key.now ∷ codes " " ∷ signed_decimal value.now ∷ codes "\n" ∷ [])) }
+    ensures { Takes E.told E.count E.room E.sound err.old err.new (concat (codes "cosim: config: Range " ∷ text_of_table table ∷ codes " " ∷ key.now ∷ codes " " ∷ signed_decimal value.now ∷ codes "\n" ∷ [])) }
 {
     let mut buffer = Buffer::new();
     let mut number = Buffer::new();
@@ -80,7 +81,7 @@ fn put_range<E: Sink>(err: &mut E, table: TableName, key: &str, value: &i64)
 
 /// Puts the line of a configuration's fault.
 fn put_config<E: Sink>(err: &mut E, fault: &ConfigFault)
-    ensures { IsPut (E.count err.old) (E.count err.new) (E.told err.old) (E.told err.new) (config_line fault.now) }
+    ensures { Takes E.told E.count E.room E.sound err.old err.new (config_line fault.now) }
 {
     match fault {
         ConfigFault::Text => put_all(err, &["cosim: config: Text\n"]),
@@ -113,7 +114,7 @@ fn put_config<E: Sink>(err: &mut E, fault: &ConfigFault)
 
 /// Puts the line of a refused packet whose cause ends in a number.
 fn put_cause<E: Sink>(err: &mut E, start: u64, place: u32, cause: &str, number: u64)
-    ensures { IsPut (E.count err.old) (E.count err.new) (E.told err.old) (E.told err.new)
+    ensures { Takes E.told E.count E.room E.sound err.old err.new
         (before (codes "cosim: input: Malformed " ∷ decimal start ∷ codes " " ∷ decimal place ∷ codes " " ∷ []) (line_one cause.now number)) }
 {
     let mut first = Buffer::new();
@@ -136,7 +137,7 @@ fn put_cause<E: Sink>(err: &mut E, start: u64, place: u32, cause: &str, number: 
 
 /// Puts the line of a refused packet whose cause ends in two numbers.
 fn put_causes<E: Sink>(err: &mut E, start: u64, place: u32, cause: &str, number: u64, other: u64)
-    ensures { IsPut (E.count err.old) (E.count err.new) (E.told err.old) (E.told err.new)
+    ensures { Takes E.told E.count E.room E.sound err.old err.new
         (before (codes "cosim: input: Malformed " ∷ decimal start ∷ codes " " ∷ decimal place ∷ codes " " ∷ []) (line_two cause.now number other)) }
 {
     let mut first = Buffer::new();
@@ -162,7 +163,7 @@ fn put_causes<E: Sink>(err: &mut E, start: u64, place: u32, cause: &str, number:
 
 /// Puts the line of a refused packet.
 fn put_malformed<E: Sink>(err: &mut E, fault: PacketFault)
-    ensures { IsPut (E.count err.old) (E.count err.new) (E.told err.old) (E.told err.new) (malformed_line fault) }
+    ensures { Takes E.told E.count E.room E.sound err.old err.new (malformed_line fault) }
 {
     let start = fault.start;
     let place = fault.place;
@@ -197,7 +198,7 @@ fn asm_text(cause: AsmCause) -> &'static str
 
 /// Puts the line of a refused assembly.
 fn put_assembly<E: Sink>(err: &mut E, line: u64, cause: AsmCause)
-    ensures { IsPut (E.count err.old) (E.count err.new) (E.told err.old) (E.told err.new) (input_line (InputFault.Assembly line cause)) }
+    ensures { Takes E.told E.count E.room E.sound err.old err.new (input_line (InputFault.Assembly line cause)) }
 {
     let mut first = Buffer::new();
     let cause = asm_text(cause);
@@ -215,7 +216,7 @@ fn put_assembly<E: Sink>(err: &mut E, line: u64, cause: AsmCause)
 
 /// Puts the line of a refused file.
 fn put_input<E: Sink>(err: &mut E, fault: InputFault)
-    ensures { IsPut (E.count err.old) (E.count err.new) (E.told err.old) (E.told err.new) (input_line fault) }
+    ensures { Takes E.told E.count E.room E.sound err.old err.new (input_line fault) }
 {
     match fault {
         InputFault::ImageEmpty => put_all(err, &["cosim: input: ImageEmpty\n"]),
@@ -240,7 +241,7 @@ fn put_input<E: Sink>(err: &mut E, fault: InputFault)
 
 /// Puts the line of a peer's fault.
 fn put_peer<E: Sink>(err: &mut E, port: u32, fault: EndFault)
-    ensures { IsPut (E.count err.old) (E.count err.new) (E.told err.old) (E.told err.new) (peer_line port fault) }
+    ensures { Takes E.told E.count E.room E.sound err.old err.new (peer_line port fault) }
 {
     let mut first = Buffer::new();
     let mut second = Buffer::new();
@@ -299,7 +300,7 @@ fn put_peer<E: Sink>(err: &mut E, port: u32, fault: EndFault)
 
 /// Puts the line of an object of the outside.
 fn put_outside<E: Sink>(err: &mut E, object: Object, count: u64)
-    ensures { IsPut (E.count err.old) (E.count err.new) (E.told err.old) (E.told err.new) (outside_line object count) }
+    ensures { Takes E.told E.count E.room E.sound err.old err.new (outside_line object count) }
 {
     match object {
         Object::Files => put_one(err, "cosim: outside: files ", count),
@@ -311,7 +312,8 @@ fn put_outside<E: Sink>(err: &mut E, object: Object, count: u64)
 
 /// Puts the line of a status, as far as the sink takes it; where all was done there is none.
 pub fn tell_status<E: Sink>(err: &mut E, status: &Status)
-    ensures { TellsStatus (E.count err.old) (E.count err.new) (E.told err.old) (E.told err.new) status.now }
+    ensures line { TellsStatus (E.count err.old) (E.count err.new) (E.told err.old) (E.told err.new) status.now }
+    ensures whole { TakesAll (E.sound err.old) (E.room err.old) (E.told err.old) (E.told err.new) (line_of status.now) }
 {
     match status {
         Status::Done => {}

@@ -1,4 +1,4 @@
-use Rattle.std.proofs.Common.{◌≡◌, take}
+use Rattle.std.proofs.Common.{◌≡◌, ◌+◌, length, take}
 use Rattle.cosim_status.specs.Lines.{texts}
 use Rattle.cosim_status.proofs.Putting.{PutsAll}
 use Rattle.cosim_status.proofs.lines.put_all.Given as goal
@@ -7,3 +7,4 @@ abbrev pub invariant-pieces : goal.invariant-pieces
 invariant-pieces g l =
     (g.E.Sink.count l.err ≡ g.E.Sink.count l.fn.err)
     × PutsAll (g.E.Sink.told l.fn.err) (g.E.Sink.told l.err) (texts (take l.piece-index l.pieces))
+    × (g.E.Sink.sound l.fn.err → g.E.Sink.sound l.err × (g.E.Sink.room l.err + length (texts (take l.piece-index l.pieces)) ≡ g.E.Sink.room l.fn.err))

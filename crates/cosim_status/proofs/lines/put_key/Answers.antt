@@ -1,6 +1,6 @@
 use Rattle.std.proofs.Common.{refl}
-use Rattle.cosim_status.proofs.Putting.{put-line}
+use Rattle.cosim_status.proofs.Taking.{put-line}
 use Rattle.cosim_status.proofs.lines.put_key.Goals as goal
 
 pub returns : goal.returns
-returns g c = put-line _ _ _ _ _ _ (rw (c.table_text-table.ensures) refl) c.put_all.ensures
+returns g c = put-line _ _ _ _ _ _ _ _ (rw (c.table_text-table.ensures) refl) c.put_all.ensures
