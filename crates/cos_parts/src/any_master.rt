@@ -36,7 +36,11 @@ impl Master for AnyMaster {
 
     fn issue(&mut self) -> Result<Option<Bus>, NoMemory> {
         match self {
-            AnyMaster::Rv(master) => master.issue(),
+            // nothing of an access is moved where the unit makes none
+            AnyMaster::Rv(master) => match master.issue() {
+                Ok(None) => return Ok(None),
+                issued => issued,
+            },
             AnyMaster::Script(master) => master.issue(),
         }
     }

@@ -163,6 +163,7 @@ fn trap(cause: u32, value: u32) -> Effect
 }
 
 /// A row of Zicsr.
+#[inline(always)]
 fn update_csr(hart: &Hart, pending: u32, word: u32, rd: u32, number: u32, update: Update) -> Effect
     requires { rd < 32 }
     ensures effect { result ≡ updates_csr hart.now pending word rd number update }

@@ -133,14 +133,15 @@ pub fn issue_in_place(hart: &mut Hart, fetched: Option<u32>, pending: u32) -> Op
     ensures hart { hart.new ≡ applied hart.old (effect_of hart.old fetched pending) }
     ensures waiting { result ≡ waiting_of (effect_of hart.old fetched pending) }
 {
-    let effect = effect(hart, fetched, pending);
-    apply(hart, effect);
-    match effect {
+    match effect(hart, fetched, pending) {
         Effect::Accesses { access, instr } => Some(Waiting {
             request: access,
             rest: Rest::of(instr),
         }),
-        _ => None,
+        effect => {
+            apply(hart, effect);
+            None
+        }
     }
 }
 

@@ -114,6 +114,7 @@ macro_rules! decode_arms {
 /// The instruction of a word, or `None` where no row matches it.
 ///
 /// Registers and immediates are within their widths, as [`Instr`] says.
+#[inline(always)]
 pub fn decode(word: u32) -> Option<Instr>
     ensures { Decodes word result }
 {

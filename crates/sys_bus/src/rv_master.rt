@@ -124,11 +124,12 @@ impl Master for RvMaster {
     ghost lawful = { rv_lawful };
 
     fn issue(&mut self) -> Result<Option<Bus>, NoMemory> {
-        match self.machine.issue() {
-            Ok(None) => Ok(None),
-            Ok(Some(waiting)) => Ok(self.issue_beyond(waiting)),
-            Err(NoMemory) => Err(NoMemory),
-        }
+        let waiting = match self.machine.issue() {
+            Ok(None) => return Ok(None),
+            Ok(Some(waiting)) => waiting,
+            Err(NoMemory) => return Err(NoMemory),
+        };
+        Ok(self.issue_beyond(waiting))
     }
 
     fn finish(&mut self, answer: Answer) {

@@ -63,6 +63,9 @@ impl SystemBlock {
     pub fn pending(&self) -> u32
         ensures { result ≡ pending_of self.now }
     {
+        if self.lines == 0 {
+            return 0;
+        }
         let external = if self.lines & self.enable == 0 {
             0
         } else {
