@@ -64,10 +64,7 @@ fn run_in<M: Master, D: Device>(
         calls: Calls::make(alloc),
         tick: 0,
     };
-    match to_end(&mut run, plan, order) {
-        Ok(()) => {}
-        Err(NoMemory) => return Err(NoMemory),
-    }
+    to_end(&mut run, plan, order)?;
     let Run {
         master,
         devices,
@@ -95,17 +92,8 @@ fn to_end<M: Master, D: Device>(
 {
     let mut next = plan.quantum;
     'units: while run.tick < plan.units && run.master.stopped().is_none() {
-        next = match run.meet_quantum(next, plan.quantum, order) {
-            Ok(next) => next,
-            Err(NoMemory) => return Err(NoMemory),
-        };
-        match run.unit() {
-            Ok(()) => {}
-            Err(NoMemory) => return Err(NoMemory),
-        }
+        next = run.meet_quantum(next, plan.quantum, order)?;
+        run.unit()?;
     }
-    match run.boundary(order) {
-        Ok(()) => Ok(()),
-        Err(NoMemory) => Err(NoMemory),
-    }
+    run.boundary(order)
 }

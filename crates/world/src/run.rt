@@ -69,20 +69,14 @@ impl<M: Master, D: Device> Run<M, D> {
         ensures tick { OnOk result (self.new.tick ≡ self.old.tick + 1) }
     {
         let device = &mut self.devices[bus.port as usize];
-        let answer = match device.access(self.tick, bus.access) {
-            Ok(answer) => plain(bus.access, answer),
-            Err(NoMemory) => return Err(NoMemory),
-        };
+        let answer = plain(bus.access, device.access(self.tick, bus.access)?);
         self.master.finish(answer);
-        match self.calls.push(Call::Access {
+        self.calls.push(Call::Access {
             tick: self.tick,
             port: bus.port,
             access: bus.access,
             answer,
-        }) {
-            Ok(()) => {}
-            Err(NoMemory) => return Err(NoMemory),
-        }
+        })?;
         self.tick += 1;
         Ok(())
     }
@@ -98,10 +92,7 @@ impl<M: Master, D: Device> Run<M, D> {
             Some(want) => want,
             None => return Ok(false),
         };
-        let reply = match serve(&mut self.master, want) {
-            Ok(reply) => reply,
-            Err(NoMemory) => return Err(NoMemory),
-        };
+        let reply = serve(&mut self.master, want)?;
         let tick = self.tick;
         let device = &mut self.devices[port];
         let due = device.due();
@@ -178,10 +169,7 @@ impl<M: Master, D: Device> Run<M, D> {
         ensures stopped { OnOk result (M.model.stopped self.new.master ≡ M.model.stopped self.old.master) }
     {
         'ports: for port in 0..self.devices.len() {
-            match self.settle(port) {
-                Ok(()) => {}
-                Err(NoMemory) => return Err(NoMemory),
-            }
+            self.settle(port)?;
         }
         Ok(())
     }
@@ -199,6 +187,7 @@ impl<M: Master, D: Device> Run<M, D> {
             WantOrder::ByPort => self.boundary_by_port(),
         }
     }
+
     /// The boundary of the next multiple of the quantum, where the run has come there, and the multiple after it.
     pub fn meet_quantum(
         &mut self,

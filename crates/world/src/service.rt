@@ -67,10 +67,7 @@ pub fn serve<M: Master>(master: &mut M, want: Want) -> Result<Reply, NoMemory>
             bytes,
             mask,
         } => {
-            let code = match store(master, addr, &bytes[..usize::from(size)], mask) {
-                Ok(code) => code,
-                Err(NoMemory) => return Err(NoMemory),
-            };
+            let code = store(master, addr, &bytes[..usize::from(size)], mask)?;
             Ok(silent(code))
         }
         Want::Line { line, level } => {

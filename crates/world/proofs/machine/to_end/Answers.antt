@@ -1,4 +1,5 @@
 use Rattle.std.proofs.Common.{◌≡◌, ◌≤◌, ◌⊎◌, true, is_some, inl, inr}
+use Rattle.std.proofs.lemmas.Result.{on_ok_weaker}
 use Rattle.world.proofs.Nexts.{first-next}
 use Rattle.world.proofs.Running.{runs-begin, runs-more, runs-end, none-of, some-of}
 use Rattle.world.proofs.machine.to_end.Goals as goal
@@ -10,10 +11,10 @@ units-init g c = runs-begin g.M.Master.model g.D.Device.model c.args.order c.arg
 pub units-preserved : goal.units-preserved
 units-preserved g c =
     let goes_on = none-of _ _ _ c.is_none.ensures c.stopped.ensures c.if-is_none.true in
-    runs-more g.M.Master.model g.D.Device.model c.args.order c.args.plan c.args.run.now c.units.run _ _ _ _ c.units-test.true goes_on c.in-Ok.ensures c.in-Ok-unit.ensures.leads c.in-Ok-unit.ensures.ready c.in-Ok-unit.ensures.tick c.units.invariant
+    runs-more g.M.Master.model g.D.Device.model c.args.order c.args.plan c.args.run.now c.units.run _ _ _ _ c.units-test.true goes_on c.in_ok-next.ensures c.in_ok-unit.ensures.leads c.in_ok-unit.ensures.ready c.in_ok-unit.ensures.tick c.units.invariant
 
-pub returns-in-Ok-boundary : goal.returns-in-Ok-boundary
-returns-in-Ok-boundary g c =
+pub returns : goal.returns
+returns g c =
     let over : (c.args.plan.units ≤ c.units.run.tick) ⊎ (is_some (g.M.Master.model.stopped c.units.run.master) ≡ true) =
     elim c.units-test.branch [ then-units-test+else-is_none w ↦ inr (some-of _ _ _ w.is_none.ensures w.stopped.ensures w.if-is_none.false) | else-units-test w ↦ inl w.units-test.false ] in
-    runs-end g.M.Master.model g.D.Device.model c.args.order c.args.plan c.args.run.now c.units.run c.boundary.new.self _ over c.in-Ok-boundary.ensures.leads c.units.invariant
+    on_ok_weaker c.boundary.result (λ leads. runs-end g.M.Master.model g.D.Device.model c.args.order c.args.plan c.args.run.now c.units.run c.boundary.new.self _ over leads c.units.invariant) c.boundary.ensures.leads

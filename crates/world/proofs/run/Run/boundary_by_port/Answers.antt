@@ -8,7 +8,7 @@ ports-init g c = ports-begin g.M.Master.model g.D.Device.model c.args.self.now c
 pub ports-preserved : goal.ports-preserved
 ports-preserved g c =
     let within : c.ports.port < length c.args.self.now.devices.items = omega (arith, c.args.self.now.devices.ok.0) in
-    ports-more g.M.Master.model g.D.Device.model c.ports.port _ c.ports.self c.settle.new.self within c.in-Ok.ensures.leads c.in-Ok.ensures.ready c.in-Ok.ensures.tick c.in-Ok.ensures.stopped c.in-Ok.ensures.ports c.ports.invariant
+    ports-more g.M.Master.model g.D.Device.model c.ports.port _ c.ports.self c.settle.new.self within c.in_ok-settle.ensures.leads c.in_ok-settle.ensures.ready c.in_ok-settle.ensures.tick c.in_ok-settle.ensures.stopped c.in_ok-settle.ensures.ports c.ports.invariant
 
 pub returns-clause-leads : goal.returns-clause-leads
 returns-clause-leads g c =
