@@ -3,8 +3,4 @@ pub mod Parts
 pub mod Order
 pub mod Packets
 pub mod Sessions
-pub mod DeviceTurn
-pub mod MachineTurn
 pub mod Direct
-pub mod World
-pub mod Traffic

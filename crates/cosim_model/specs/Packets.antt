@@ -1,6 +1,6 @@
 -- What packets mean, apart from their bytes, and a codec of which only its laws are known.
 use Rattle.std.specs.Prelude.{◌≡◌, ℕ, zero, suc, ◌+◌, ◌*◌, ◌/◌, ◌%◌, ◌^◌, ◌<◌, ◌≤◌, Bool, true, false, not, ◌&&◌, ◌||◌, if◌then◌else◌, nat_eq, List, [], ◌∷◌, ◌++◌, length, get_or, map, All, Option, Some}
-use Rattle.process_network.specs.PacketProcesses.{IsDecided}
+use Rattle.byte_streams.specs.Messages.{IsDecided}
 use Rattle.cosim_model.specs.declared.values.Caps.{Caps}
 use Rattle.cosim_model.specs.Values.{bit}
 use Rattle.cosim_model.specs.declared.session.Command.TheVariants as command

@@ -6,7 +6,5 @@
 pub mod session;
 pub mod values;
 
-pub use session::{
-    Command, EndFault, Event, OpenSync, OwnRequest, Phase, Role, SessionFault, Ticket,
-};
+pub use session::{Command, EndFault, Event, OwnRequest, Role, SessionFault, Ticket};
 pub use values::{Access, Answer, Bus, Call, Caps, Closing, HartView, Plan, Reply, Want};

@@ -8,7 +8,7 @@ use Rattle.cosim_model.specs.declared.values.Want.{Want}
 use Rattle.cosim_model.specs.Values.{bits_of, all_on}
 use Rattle.cosim_model.specs.Parts.{IsWant, IsByte, IsAccess, IsDevice, IsMaster}
 use Rattle.cosim_model.specs.Packets.{IsCodec}
-use Rattle.cosim_model.specs.World.{Side, Fit}
+use Rattle.ends_model.specs.World.{Side, Fit}
 use Rattle.echo_system.specs.declared.counter.Counter.{Counter}
 use Rattle.echo_system.specs.declared.counter.Cause.TheVariants.{TooFew}
 use Rattle.echo_system.specs.declared.echo.Echo.{Echo}

@@ -7,7 +7,7 @@ use Rattle.cosim_model.specs.declared.values.Want.TheVariants.{Fetch}
 use Rattle.cosim_model.specs.Values.{all_caps, no_caps}
 use Rattle.cosim_model.specs.Parts.{DeviceModel, MasterModel}
 use Rattle.cosim_model.specs.Packets.{Codec}
-use Rattle.cosim_model.specs.World.{Side}
+use Rattle.ends_model.specs.World.{Side}
 use Rattle.echo_system.specs.declared.counter.Cause.{Cause}
 use Rattle.echo_system.specs.declared.counter.Cause.TheVariants.{TooFew}
 use Rattle.echo_system.specs.declared.counter.Counter.{Counter}

@@ -22,12 +22,12 @@ use Rattle.cosim_model.specs.declared.session.OwnRequest.{OwnRequest}
 use Rattle.cosim_model.specs.declared.session.Ticket.{Ticket}
 use Rattle.cosim_model.specs.Sessions.{Session, take_packet, answer_of, ticket_of, next_number}
 use Rattle.cosim_model.specs.declared.session.Event.TheVariants.{Answered, Asked}
-use Rattle.cosim_model.specs.declared.session.OpenSync.{OpenSync}
-use Rattle.cosim_model.specs.DeviceTurn.{DeviceEnd, device_takes, device_took, then_settled, answer_fields, answer_read, answer_write, settled, is_answered, want_body, own_request, asked}
-use Rattle.cosim_model.specs.declared.session.Phase.{Phase}
+use Rattle.ends_model.specs.declared.ends.OpenSync.{OpenSync}
+use Rattle.ends_model.specs.DeviceTurn.{DeviceEnd, device_takes, device_took, then_settled, answer_fields, answer_read, answer_write, settled, is_answered, want_body, own_request, asked}
+use Rattle.ends_model.specs.declared.ends.Phase.{Phase}
 use Rattle.cosim_model.specs.declared.values.Plan.{Plan}
-use Rattle.cosim_model.specs.MachineTurn.{MachineEnd, PortEnd, access_body, access_fields, requested, with_wait, is_boundary_due, time_of, bus_body}
-use Rattle.cosim_model.specs.declared.session.Phase.TheVariants.{Run, AnswerFrom}
+use Rattle.ends_model.specs.MachineTurn.{MachineEnd, PortEnd, access_body, access_fields, requested, with_wait, is_boundary_due, time_of, bus_body}
+use Rattle.ends_model.specs.declared.ends.Phase.TheVariants.{Run, AnswerFrom}
 use Rattle.every_schedule.specs.Wires.{Wire, unsettled, behind, early, take_answer, access_sent, access_answer, did_access, answer_body, ticket_if, open_if}
 use Rattle.every_schedule.specs.Mirror.{machine_session, front, ticket_at}
 use Rattle.every_schedule.proofs.Base.{not_below}

@@ -10,13 +10,13 @@ use Rattle.process_network.proofs.MovesAtPort.{get_set, focus}
 use Rattle.cosim_model.specs.declared.values.Call.{Call}
 use Rattle.cosim_model.specs.Parts.{DeviceModel, MasterModel, IsDevice}
 use Rattle.cosim_model.specs.Packets.{Decoded, Codec}
-use Rattle.cosim_model.specs.DeviceTurn.{DeviceEnd}
-use Rattle.cosim_model.specs.declared.session.Phase.{Phase}
+use Rattle.ends_model.specs.DeviceTurn.{DeviceEnd}
+use Rattle.ends_model.specs.declared.ends.Phase.{Phase}
 use Rattle.cosim_model.specs.declared.values.Plan.{Plan}
-use Rattle.cosim_model.specs.MachineTurn.{MachineEnd, with_wait, sync_outlook}
-use Rattle.cosim_model.specs.declared.session.Phase.TheVariants.{SyncTo, Gather}
+use Rattle.ends_model.specs.MachineTurn.{MachineEnd, with_wait, sync_outlook}
+use Rattle.ends_model.specs.declared.ends.Phase.TheVariants.{SyncTo, Gather}
 use Rattle.every_schedule.specs.Wires.{Wire}
-use Rattle.cosim_model.specs.World.{ends}
+use Rattle.ends_model.specs.World.{ends}
 use Rattle.every_schedule.specs.Mirror.{port_of, post_of}
 use Rattle.every_schedule.proofs.Lists.{map_both, get_mid, set_mid, get_mapped, Each}
 use Rattle.every_schedule.proofs.AtPort.{IsFine}

@@ -11,12 +11,12 @@ use Rattle.cosim_model.specs.Values.{plain}
 use Rattle.cosim_model.specs.declared.values.Call.TheVariants as call
 use Rattle.cosim_model.specs.Parts.{DeviceModel, MasterModel, IsAccess, IsDevice}
 use Rattle.cosim_model.specs.Packets.{Packet, Decoded, Codec}
-use Rattle.cosim_model.specs.DeviceTurn.{DeviceEnd, settled, is_answered}
-use Rattle.cosim_model.specs.declared.session.Phase.{Phase}
+use Rattle.ends_model.specs.DeviceTurn.{DeviceEnd, settled, is_answered}
+use Rattle.ends_model.specs.declared.ends.Phase.{Phase}
 use Rattle.cosim_model.specs.declared.values.Plan.{Plan}
-use Rattle.cosim_model.specs.MachineTurn.{MachineEnd, PortEnd, is_boundary_due}
-use Rattle.cosim_model.specs.declared.session.Phase.TheVariants.{Run}
-use Rattle.cosim_model.specs.World.{Side}
+use Rattle.ends_model.specs.MachineTurn.{MachineEnd, PortEnd, is_boundary_due}
+use Rattle.ends_model.specs.declared.ends.Phase.TheVariants.{Run}
+use Rattle.ends_model.specs.World.{Side}
 use Rattle.every_schedule.specs.Wires.{Wire, unsettled, behind, access_wire}
 use Rattle.every_schedule.proofs.Settles.{settles_idle, settles_waiting}
 use Rattle.every_schedule.proofs.PacketFacts.{IsClear}

@@ -8,10 +8,10 @@ use Rattle.cosim_model.specs.declared.values.Call.{Call}
 use Rattle.cosim_model.specs.Parts.{DeviceModel, MasterModel, IsDevice, IsMaster, IsWant}
 use Rattle.cosim_model.specs.Packets.{Packet, Decoded, Codec}
 use Rattle.cosim_model.specs.Packets.Body.{Sync}
-use Rattle.cosim_model.specs.DeviceTurn.{DeviceEnd, settled}
+use Rattle.ends_model.specs.DeviceTurn.{DeviceEnd, settled}
 use Rattle.cosim_model.specs.declared.values.Plan.{Plan}
-use Rattle.cosim_model.specs.MachineTurn.{MachineEnd, is_unknown, is_clear, time_of, held_time}
-use Rattle.cosim_model.specs.declared.session.Phase.TheVariants.{Gather}
+use Rattle.ends_model.specs.MachineTurn.{MachineEnd, is_unknown, is_clear, time_of, held_time}
+use Rattle.ends_model.specs.declared.ends.Phase.TheVariants.{Gather}
 use Rattle.every_schedule.specs.Wires.{Wire, unsettled, sends_of, behind, gathered, gathered_by, take_request, take_synced, wired}
 use Rattle.cosim_model.specs.Direct.{want_time, due_of}
 use Rattle.every_schedule.specs.Mirror.{port_of, post_of, front, own_if}

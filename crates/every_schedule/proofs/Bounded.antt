@@ -11,11 +11,11 @@ use Rattle.cosim_model.specs.declared.values.Plan.{Plan}
 use Rattle.cosim_model.specs.Parts.{DeviceModel, MasterModel, IsDevice, IsMaster}
 use Rattle.cosim_model.specs.Packets.{Packet, Decoded, Codec, IsCodec, IsWritable}
 use Rattle.cosim_model.specs.Packets.Decoded.{Valid}
-use Rattle.cosim_model.specs.DeviceTurn.{DeviceEnd, settled}
-use Rattle.cosim_model.specs.MachineTurn.{MachineEnd}
+use Rattle.ends_model.specs.DeviceTurn.{DeviceEnd, settled}
+use Rattle.ends_model.specs.MachineTurn.{MachineEnd}
 use Rattle.cosim_model.specs.Direct.{Direct}
-use Rattle.cosim_model.specs.Traffic.{wire_out}
-use Rattle.cosim_model.specs.World.{Side, ends, machine_start, device_start, Fit}
+use Rattle.ends_model.specs.Traffic.{wire_out}
+use Rattle.ends_model.specs.World.{Side, ends, machine_start, device_start, Fit}
 use Rattle.every_schedule.specs.Counts.{accesses_in, lonely_in, posted_in, one_if_whole, rest_after, whole_packets, packets_in}
 use Rattle.every_schedule.specs.Mirror.{post_of}
 use Rattle.every_schedule.specs.Schedules.{directly, bytes_out, bytes_back, of_side, over_ports, sides, IsBounded}

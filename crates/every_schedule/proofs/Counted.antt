@@ -5,10 +5,10 @@ use Rattle.std.proofs.Common.{◌≡◌, ℕ, suc, ◌+◌, List, [], ◌∷◌,
 use Rattle.process_network.specs.PacketStar.{PacketWorld}
 use Rattle.cosim_model.specs.Parts.{DeviceModel, MasterModel}
 use Rattle.cosim_model.specs.Packets.{Decoded, Codec}
-use Rattle.cosim_model.specs.DeviceTurn.{DeviceEnd}
-use Rattle.cosim_model.specs.MachineTurn.{MachineEnd}
+use Rattle.ends_model.specs.DeviceTurn.{DeviceEnd}
+use Rattle.ends_model.specs.MachineTurn.{MachineEnd}
 use Rattle.cosim_model.specs.Direct.{Moment}
-use Rattle.cosim_model.specs.World.{Side}
+use Rattle.ends_model.specs.World.{Side}
 use Rattle.every_schedule.specs.Counts.{one_access, accesses_in, boundaries_in, lonely_in, one_posted, posted_in}
 use Rattle.every_schedule.proofs.Leads.{LeadsBy, leads_by}
 

@@ -14,10 +14,10 @@ use Rattle.cosim_model.specs.declared.values.Call.TheVariants as call
 use Rattle.cosim_model.specs.Parts.{DeviceModel, MasterModel, IsDevice, served}
 use Rattle.cosim_model.specs.Packets.{Packet}
 use Rattle.cosim_model.specs.declared.values.Plan.{Plan}
-use Rattle.cosim_model.specs.MachineTurn.{least, at_quantum}
+use Rattle.ends_model.specs.MachineTurn.{least, at_quantum}
 use Rattle.every_schedule.specs.Wires.{Wire, unread, sends_of, early, gathered_by, fed_wire, sync_sent, access_wire, access_sent, wired}
 use Rattle.cosim_model.specs.Direct.{Direct, mark, unit, unit_of, access_device, boundary, boundary_if, met_quantum, direct_from, advance_all, serve_all, serve_one, serve_next, serve_device, serve_want, all_left, want_time}
-use Rattle.cosim_model.specs.World.{of_port, own_call}
+use Rattle.ends_model.specs.World.{of_port, own_call}
 use Rattle.every_schedule.proofs.Base.{same_number}
 use Rattle.every_schedule.proofs.Lists.{unmapped}
 

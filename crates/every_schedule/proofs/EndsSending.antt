@@ -13,12 +13,12 @@ use Rattle.cosim_model.specs.Parts.{DeviceModel, MasterModel, IsDevice, IsMaster
 use Rattle.cosim_model.specs.Packets.{Packet, Decoded, Codec, IsCodec, spell}
 use Rattle.cosim_model.specs.Packets.Decoded.{Valid}
 use Rattle.cosim_model.specs.declared.session.EndFault.{EndFault}
-use Rattle.cosim_model.specs.DeviceTurn.{DeviceEnd, device_takes, device_looks}
+use Rattle.ends_model.specs.DeviceTurn.{DeviceEnd, device_takes, device_looks}
 use Rattle.cosim_model.specs.declared.values.Plan.{Plan}
-use Rattle.cosim_model.specs.MachineTurn.{MachineEnd}
-use Rattle.cosim_model.specs.World.{Side}
+use Rattle.ends_model.specs.MachineTurn.{MachineEnd}
+use Rattle.ends_model.specs.World.{Side}
 use Rattle.every_schedule.specs.Wires.{Wire, unsettled, open_if}
-use Rattle.cosim_model.specs.World.{ends, machine_start, device_start, Fit}
+use Rattle.ends_model.specs.World.{ends, machine_start, device_start, Fit}
 use Rattle.every_schedule.specs.Mirror.{post_of}
 use Rattle.every_schedule.proofs.Lists.{Each, each_at, get_mid, unmapped, get_mapped}
 use Rattle.every_schedule.proofs.Tails.{IsMatched}

@@ -11,12 +11,12 @@ use Rattle.process_network.proofs.PacketCursors.{packet_cursors}
 use Rattle.process_network.proofs.PacketRuns.{ends_monotone}
 use Rattle.cosim_model.specs.Parts.{DeviceModel, MasterModel, IsDevice, IsMaster}
 use Rattle.cosim_model.specs.Packets.{Decoded, Codec, IsCodec}
-use Rattle.cosim_model.specs.DeviceTurn.{DeviceEnd}
+use Rattle.ends_model.specs.DeviceTurn.{DeviceEnd}
 use Rattle.cosim_model.specs.declared.values.Plan.{Plan}
-use Rattle.cosim_model.specs.MachineTurn.{MachineEnd, machine_looks, phase_outlook}
-use Rattle.cosim_model.specs.declared.session.Phase.TheVariants.{Done}
-use Rattle.cosim_model.specs.World.{Side}
-use Rattle.cosim_model.specs.World.{ends, machine_start, Fit, world}
+use Rattle.ends_model.specs.MachineTurn.{MachineEnd, machine_looks, phase_outlook}
+use Rattle.ends_model.specs.declared.ends.Phase.TheVariants.{Done}
+use Rattle.ends_model.specs.World.{Side}
+use Rattle.ends_model.specs.World.{ends, machine_start, Fit, world}
 use Rattle.every_schedule.specs.Mirror.{post_of}
 use Rattle.every_schedule.specs.Schedules.{IsEnd, IsDelivered, IsEverySchedule}
 use Rattle.every_schedule.proofs.Lists.{unmapped, each_at}

@@ -12,7 +12,7 @@ use Rattle.cosim_model.specs.declared.values.Call.TheVariants as call
 use Rattle.cosim_model.specs.Parts.{DeviceModel, MasterModel, served}
 use Rattle.cosim_model.specs.Packets.{Packet}
 use Rattle.cosim_model.specs.declared.values.Plan.{Plan}
-use Rattle.cosim_model.specs.MachineTurn.{least, at_quantum}
+use Rattle.ends_model.specs.MachineTurn.{least, at_quantum}
 use Rattle.every_schedule.specs.Wires.{Wire, unread, sends_of, early, gathered_by, fed_wire, sync_sent, access_wire, access_sent, wired}
 use Rattle.cosim_model.specs.Direct.Moment.{Called}
 use Rattle.cosim_model.specs.Direct.{Direct, unit, unit_of, access_device, boundary, boundary_if, met_quantum, direct_from, advance_all, serve_left, serve_all, serve_one, serve_next, serve_device, serve_want, mark, all_left, want_time, due_of}

@@ -16,12 +16,12 @@ use Rattle.cosim_model.specs.Packets.Body.{Sync}
 use Rattle.cosim_model.specs.Packets.Decoded.{Valid}
 use Rattle.cosim_model.specs.Sessions.{Session, take_packet}
 use Rattle.cosim_model.specs.declared.session.Event.TheVariants.{SyncDone, Told}
-use Rattle.cosim_model.specs.DeviceTurn.{DeviceEnd, settled, is_answered, want_body, told, level_of, closed}
+use Rattle.ends_model.specs.DeviceTurn.{DeviceEnd, settled, is_answered, want_body, told, level_of, closed}
 use Rattle.cosim_model.specs.declared.values.Plan.{Plan}
-use Rattle.cosim_model.specs.MachineTurn.{MachineEnd, PortEnd, first_true, is_unknown, is_clear, if_over, gather_outlook, machine_hears_at, machine_took, time_of}
-use Rattle.cosim_model.specs.declared.session.Phase.TheVariants.{Gather}
+use Rattle.ends_model.specs.MachineTurn.{MachineEnd, PortEnd, first_true, is_unknown, is_clear, if_over, gather_outlook, machine_hears_at, machine_took, time_of}
+use Rattle.ends_model.specs.declared.ends.Phase.TheVariants.{Gather}
 use Rattle.every_schedule.specs.Wires.{Wire, unsettled, behind, gathered, gathered_by, take_request, take_synced}
-use Rattle.cosim_model.specs.World.{ends}
+use Rattle.ends_model.specs.World.{ends}
 use Rattle.every_schedule.specs.Mirror.{ticket_at}
 use Rattle.every_schedule.proofs.Base.{not_below}
 use Rattle.every_schedule.proofs.Lists.{off_at}

@@ -17,14 +17,14 @@ use Rattle.cosim_model.specs.Packets.Decoded.{Valid}
 use Rattle.cosim_model.specs.Sessions.{Session, take_packet, fresh_session, hello_of, hello_sent, lacking}
 use Rattle.cosim_model.specs.declared.session.Role.TheVariants.{Machine, Device}
 use Rattle.cosim_model.specs.declared.session.Event.TheVariants.{Met}
-use Rattle.cosim_model.specs.DeviceTurn.{DeviceEnd, settled, device_takes, device_took}
-use Rattle.cosim_model.specs.declared.session.Phase.{Phase}
+use Rattle.ends_model.specs.DeviceTurn.{DeviceEnd, settled, device_takes, device_took}
+use Rattle.ends_model.specs.declared.ends.Phase.{Phase}
 use Rattle.cosim_model.specs.declared.values.Plan.{Plan}
-use Rattle.cosim_model.specs.MachineTurn.{MachineEnd, PortEnd, greeted, waits_at, after_greet, to_meet, greet_outlook, machine_hears_at, machine_took}
-use Rattle.cosim_model.specs.declared.session.Phase.TheVariants.{Greet, Meet, Run}
-use Rattle.cosim_model.specs.World.{Side}
+use Rattle.ends_model.specs.MachineTurn.{MachineEnd, PortEnd, greeted, waits_at, after_greet, to_meet, greet_outlook, machine_hears_at, machine_took}
+use Rattle.ends_model.specs.declared.ends.Phase.TheVariants.{Greet, Meet, Run}
+use Rattle.ends_model.specs.World.{Side}
 use Rattle.every_schedule.specs.Wires.{Wire, unsettled, device_session, met_wire}
-use Rattle.cosim_model.specs.World.{ends, machine_start, device_start}
+use Rattle.ends_model.specs.World.{ends, machine_start, device_start}
 use Rattle.every_schedule.specs.Mirror.{port_of, post_of}
 use Rattle.every_schedule.proofs.Base.{common_here}
 use Rattle.every_schedule.proofs.Lists.{get_mid, set_mid, map_both}

@@ -14,14 +14,14 @@ use Rattle.cosim_model.specs.Parts.{DeviceModel, MasterModel, IsDevice, IsMaster
 use Rattle.cosim_model.specs.Packets.{Packet, Decoded, Codec, IsCodec, IsWritable, spell, offered, listed}
 use Rattle.cosim_model.specs.Packets.Body.{Hello}
 use Rattle.cosim_model.specs.Packets.Decoded.{Valid}
-use Rattle.cosim_model.specs.DeviceTurn.{DeviceEnd, settled, device_outlook}
+use Rattle.ends_model.specs.DeviceTurn.{DeviceEnd, settled, device_outlook}
 use Rattle.cosim_model.specs.declared.values.Plan.{Plan}
-use Rattle.cosim_model.specs.MachineTurn.{MachineEnd}
-use Rattle.cosim_model.specs.declared.session.Phase.TheVariants.{Done}
-use Rattle.cosim_model.specs.World.{Side}
+use Rattle.ends_model.specs.MachineTurn.{MachineEnd}
+use Rattle.ends_model.specs.declared.ends.Phase.TheVariants.{Done}
+use Rattle.ends_model.specs.World.{Side}
 use Rattle.every_schedule.specs.Wires.{Wire, unsettled, behind, wired, met_wire}
 use Rattle.cosim_model.specs.Direct.{Direct, direct, direct_start, direct_from}
-use Rattle.cosim_model.specs.World.{ends, machine_start, Fit}
+use Rattle.ends_model.specs.World.{ends, machine_start, Fit}
 use Rattle.every_schedule.specs.Mirror.{post_of}
 use Rattle.every_schedule.proofs.Lists.{Each, each_at, each_map, each_to, map_both, unmapped}
 use Rattle.every_schedule.proofs.Settles.{settles_idle}

@@ -10,9 +10,9 @@ use Rattle.process_network.proofs.MovesAtPort.{packets_append}
 use Rattle.cosim_model.specs.Parts.{DeviceModel, MasterModel}
 use Rattle.cosim_model.specs.Packets.{Packet, Decoded, Codec, body_size}
 use Rattle.cosim_model.specs.Packets.Decoded.{Valid}
-use Rattle.cosim_model.specs.DeviceTurn.{DeviceEnd, device_outlook}
-use Rattle.cosim_model.specs.MachineTurn.{MachineEnd, machine_outlook}
-use Rattle.cosim_model.specs.World.{ends}
+use Rattle.ends_model.specs.DeviceTurn.{DeviceEnd, device_outlook}
+use Rattle.ends_model.specs.MachineTurn.{MachineEnd, machine_outlook}
+use Rattle.ends_model.specs.World.{ends}
 
 -- A port whose device end rests, and has sent at most one packet that was not taken, of at most 208 bytes.
 

@@ -4,7 +4,7 @@ use Rattle.std.proofs.lemmas.Option.{none-some, same_Some}
 use Rattle.std.proofs.lemmas.Bool.{and_right}
 use Rattle.std.specs.Prelude.{option_map, nat_le, if◌then◌else◌}
 use Rattle.cosim_model.specs.Values.{all_on}
-use Rattle.cosim_model.specs.MachineTurn.{or_first, first_true, later, lower, least}
+use Rattle.ends_model.specs.MachineTurn.{or_first, first_true, later, lower, least}
 
 pub map_both : {A B C : Type 0} (f : B → C) (g : A → B) (h : A → C) → ((x : A) → f (g x) ≡ h x) → (xs : List A) → map f (map g xs) ≡ map h xs
 map_both f g h same [] = refl

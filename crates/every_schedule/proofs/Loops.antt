@@ -1,6 +1,6 @@
 -- The loops of a boundary.
 use Rattle.cosim_model.specs.Direct.Moment.{Called}
-use Rattle.cosim_model.specs.World.{Side}
+use Rattle.ends_model.specs.World.{Side}
 use Rattle.every_schedule.specs.Counts.{if_posted, posted_by}
 use Rattle.every_schedule.proofs.Leads.{LeadsBy, recount, leads_by, arrives, between}
 use Rattle.every_schedule.proofs.Counted.{IsCount, Counted, counted_on, uncounted, count_one, lonely_called}
@@ -20,10 +20,10 @@ use Rattle.cosim_model.specs.Values.{all_on}
 use Rattle.cosim_model.specs.declared.values.Call.TheVariants as call
 use Rattle.cosim_model.specs.Parts.{DeviceModel, MasterModel, IsDevice, IsMaster, served}
 use Rattle.cosim_model.specs.Packets.{Packet, Decoded, Codec}
-use Rattle.cosim_model.specs.DeviceTurn.{DeviceEnd}
+use Rattle.ends_model.specs.DeviceTurn.{DeviceEnd}
 use Rattle.cosim_model.specs.declared.values.Plan.{Plan}
-use Rattle.cosim_model.specs.MachineTurn.{MachineEnd, first_true, is_unknown, is_clear, if_over, least, held_time, is_last_boundary}
-use Rattle.cosim_model.specs.declared.session.Phase.TheVariants.{Gather, Run, Done}
+use Rattle.ends_model.specs.MachineTurn.{MachineEnd, first_true, is_unknown, is_clear, if_over, least, held_time, is_last_boundary}
+use Rattle.ends_model.specs.declared.ends.Phase.TheVariants.{Gather, Run, Done}
 use Rattle.every_schedule.specs.Wires.{Wire, sends_of, unread, gathered, gathered_by, fed_wire, wired}
 use Rattle.cosim_model.specs.Direct.{Direct, Moment, serve_one, serve_all, serve_next, serve_device, serve_want, want_time, due_of, all_left, serve_left}
 use Rattle.every_schedule.specs.Mirror.{port_of, post_of}
@@ -35,9 +35,9 @@ use Rattle.every_schedule.proofs.Serves.{serve_at}
 use Rattle.every_schedule.proofs.Boundary.{IsOpenAt, IsKnown, bound, is_open, clear_want, gathered_known, gathered_held, gathered_all, unknown_open, known_not, open_unclear, known_time, none_clear}
 use Rattle.cosim_model.specs.Packets.{IsWritable}
 use Rattle.cosim_model.specs.Sessions.{is_posted}
-use Rattle.cosim_model.specs.DeviceTurn.{want_body}
+use Rattle.ends_model.specs.DeviceTurn.{want_body}
 use Rattle.every_schedule.specs.Wires.{reply_packets, replies_to}
-use Rattle.cosim_model.specs.Traffic.{reply_body}
+use Rattle.ends_model.specs.Traffic.{reply_body}
 use Rattle.every_schedule.proofs.Serves.{posted_request}
 use Rattle.cosim_model.specs.declared.values.Want.TheVariants.{Fetch, Store, Line}
 use Rattle.every_schedule.proofs.Tails.{IsReplyBody}

@@ -12,9 +12,9 @@ use Rattle.process_network.proofs.StarTalk.{link_gives, driven, talk_ends}
 use Rattle.cosim_model.specs.declared.values.Plan.{Plan}
 use Rattle.cosim_model.specs.Parts.{DeviceModel, MasterModel, IsDevice, IsMaster}
 use Rattle.cosim_model.specs.Packets.{Decoded, Codec, IsCodec}
-use Rattle.cosim_model.specs.DeviceTurn.{DeviceEnd}
-use Rattle.cosim_model.specs.MachineTurn.{MachineEnd}
-use Rattle.cosim_model.specs.World.{Side, ends, machine_start, device_start, Fit}
+use Rattle.ends_model.specs.DeviceTurn.{DeviceEnd}
+use Rattle.ends_model.specs.MachineTurn.{MachineEnd}
+use Rattle.ends_model.specs.World.{Side, ends, machine_start, device_start, Fit}
 use Rattle.every_schedule.specs.Mirror.{post_of}
 use Rattle.every_schedule.specs.Schedules.{IsHonest, back_at, IsMachineRun, IsDriven, DrivesWell}
 use Rattle.every_schedule.specs.Wires.{Wire}

@@ -12,10 +12,10 @@ use Rattle.cosim_model.specs.declared.values.Call.TheVariants as call
 use Rattle.cosim_model.specs.Parts.{MasterModel, IsAccess, IsWant, IsMaster, IsSize, served}
 use Rattle.cosim_model.specs.Packets.{BusFields, code_of, enabled, enables_of, is_enabled, count_from}
 use Rattle.cosim_model.specs.Packets.Body.{Read, Write}
-use Rattle.cosim_model.specs.DeviceTurn.{is_device_size, access_from, want_body, reply_from, request_fields, answer_fields, with_code, fetched, bare_reply}
-use Rattle.cosim_model.specs.MachineTurn.{Service, access_fields, answer_from, serve_body, serve_read, serve_write, payload_of, if_call}
+use Rattle.ends_model.specs.DeviceTurn.{is_device_size, access_from, want_body, reply_from, request_fields, answer_fields, with_code, fetched, bare_reply}
+use Rattle.ends_model.specs.MachineTurn.{Service, access_fields, answer_from, serve_body, serve_read, serve_write, payload_of, if_call}
 use Rattle.every_schedule.specs.Wires.{answer_body}
-use Rattle.cosim_model.specs.Traffic.{reply_body}
+use Rattle.ends_model.specs.Traffic.{reply_body}
 use Rattle.every_schedule.proofs.Base.{same_number}
 use Rattle.every_schedule.proofs.Bytes.{le_bytes, bits_flags, length_flags, length_bytes, each_byte, bytes_le, length_kept, each_kept, kept_twice, enabled_same, take_padded, kept_all, all_enabled, padded_zeros}
 

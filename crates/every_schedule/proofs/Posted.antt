@@ -15,11 +15,11 @@ use Rattle.cosim_model.specs.Packets.Body.{Write}
 use Rattle.cosim_model.specs.Packets.Decoded.{Valid}
 use Rattle.cosim_model.specs.declared.session.OwnRequest.{OwnRequest}
 use Rattle.cosim_model.specs.Sessions.{next_number}
-use Rattle.cosim_model.specs.DeviceTurn.{want_body, DeviceEnd, device_takes, device_took, then_settled, do_posted, settled}
-use Rattle.cosim_model.specs.declared.session.Phase.{Phase}
+use Rattle.ends_model.specs.DeviceTurn.{want_body, DeviceEnd, device_takes, device_took, then_settled, do_posted, settled}
+use Rattle.ends_model.specs.declared.ends.Phase.{Phase}
 use Rattle.cosim_model.specs.declared.values.Plan.{Plan}
-use Rattle.cosim_model.specs.MachineTurn.{MachineEnd, PortEnd, access_body, access_fields, is_boundary_due}
-use Rattle.cosim_model.specs.declared.session.Phase.TheVariants.{Run}
+use Rattle.ends_model.specs.MachineTurn.{MachineEnd, PortEnd, access_body, access_fields, is_boundary_due}
+use Rattle.ends_model.specs.declared.ends.Phase.TheVariants.{Run}
 use Rattle.every_schedule.specs.Wires.{Wire, unsettled, behind, access_sent, did_access}
 use Rattle.every_schedule.proofs.Takes.{device_s, own, packet, nothing_beyond, gets_posted}
 use Rattle.every_schedule.proofs.PacketFacts.{IsClear, device_size, same_access}

@@ -19,9 +19,9 @@ use Rattle.cosim_model.specs.declared.values.Plan.{Plan}
 use Rattle.cosim_model.specs.Parts.{DeviceModel, MasterModel, IsDevice, IsMaster}
 use Rattle.cosim_model.specs.Packets.{Packet, Decoded, Codec, IsCodec, IsWritable, body_size}
 use Rattle.cosim_model.specs.Packets.Decoded.{Valid}
-use Rattle.cosim_model.specs.DeviceTurn.{DeviceEnd}
-use Rattle.cosim_model.specs.MachineTurn.{MachineEnd, machine_outlook}
-use Rattle.cosim_model.specs.World.{Side, ends, machine_start, Fit, world}
+use Rattle.ends_model.specs.DeviceTurn.{DeviceEnd}
+use Rattle.ends_model.specs.MachineTurn.{MachineEnd, machine_outlook}
+use Rattle.ends_model.specs.World.{Side, ends, machine_start, Fit, world}
 use Rattle.every_schedule.specs.Schedules.{untaken, HasRoom}
 use Rattle.every_schedule.proofs.Bounded.{nothing_first}
 use Rattle.every_schedule.proofs.Greeting.{leaves_of}

@@ -1,6 +1,6 @@
 -- A boundary, and a unit.
-use Rattle.cosim_model.specs.World.{Side}
-use Rattle.cosim_model.specs.MachineTurn.{machine_outlook}
+use Rattle.ends_model.specs.World.{Side}
+use Rattle.ends_model.specs.MachineTurn.{machine_outlook}
 use Rattle.every_schedule.specs.Counts.{lonely_in}
 use Rattle.every_schedule.proofs.Leads.{LeadsBy, arrives, hub_alone}
 use Rattle.every_schedule.proofs.Counted.{IsCount, Counted, counted_on, count_one}
@@ -15,15 +15,15 @@ use Rattle.cosim_model.specs.declared.values.Call.{Call}
 use Rattle.cosim_model.specs.Values.{all_on}
 use Rattle.cosim_model.specs.Parts.{DeviceModel, MasterModel, IsDevice, IsMaster}
 use Rattle.cosim_model.specs.Packets.{Decoded, Codec}
-use Rattle.cosim_model.specs.DeviceTurn.{DeviceEnd}
-use Rattle.cosim_model.specs.declared.session.Phase.{Phase}
+use Rattle.ends_model.specs.DeviceTurn.{DeviceEnd}
+use Rattle.ends_model.specs.declared.ends.Phase.{Phase}
 use Rattle.cosim_model.specs.declared.values.Plan.{Plan}
-use Rattle.cosim_model.specs.MachineTurn.{MachineEnd, is_clear, is_last_boundary, is_boundary_due, run_outlook}
-use Rattle.cosim_model.specs.declared.session.Phase.TheVariants.{Gather, Run, Done}
+use Rattle.ends_model.specs.MachineTurn.{MachineEnd, is_clear, is_last_boundary, is_boundary_due, run_outlook}
+use Rattle.ends_model.specs.declared.ends.Phase.TheVariants.{Gather, Run, Done}
 use Rattle.every_schedule.specs.Wires.{Wire, gathered, sync_sent, wired}
 use Rattle.cosim_model.specs.Direct.Moment.{Boundary}
 use Rattle.cosim_model.specs.Direct.{Direct, mark, boundary, advance_all, serve_left}
-use Rattle.cosim_model.specs.World.{ends}
+use Rattle.ends_model.specs.World.{ends}
 use Rattle.every_schedule.specs.Mirror.{port_of}
 use Rattle.every_schedule.proofs.Lists.{map_both, Each, each_to, each_map, off_mid}
 use Rattle.every_schedule.proofs.AtPort.{IsFine}

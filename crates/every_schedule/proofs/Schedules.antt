@@ -12,15 +12,15 @@ use Rattle.process_network.specs.PacketStar.{Ends, HubEnd, LeafEnd, PacketLink, 
 use Rattle.cosim_model.specs.Parts.{DeviceModel, MasterModel, IsDevice, IsMaster}
 use Rattle.cosim_model.specs.Packets.{Packet, Decoded, Codec, IsCodec, spell}
 use Rattle.cosim_model.specs.Packets.Decoded.{Valid}
-use Rattle.cosim_model.specs.DeviceTurn.{DeviceEnd, settled}
+use Rattle.ends_model.specs.DeviceTurn.{DeviceEnd, settled}
 use Rattle.cosim_model.specs.declared.values.Plan.{Plan}
-use Rattle.cosim_model.specs.MachineTurn.{MachineEnd}
+use Rattle.ends_model.specs.MachineTurn.{MachineEnd}
 use Rattle.cosim_model.specs.Direct.{Direct, direct_start}
-use Rattle.cosim_model.specs.World.{Side}
+use Rattle.ends_model.specs.World.{Side}
 use Rattle.every_schedule.specs.Wires.{Wire, unsettled, met_wire}
-use Rattle.cosim_model.specs.World.{ends, machine_start, device_start, Fit, of_port, world}
-use Rattle.cosim_model.specs.declared.session.Phase.TheVariants.{Done}
-use Rattle.cosim_model.specs.Traffic.{Sent, wire_out, out_device}
+use Rattle.ends_model.specs.World.{ends, machine_start, device_start, Fit, of_port, world}
+use Rattle.ends_model.specs.declared.ends.Phase.TheVariants.{Done}
+use Rattle.ends_model.specs.Traffic.{Sent, wire_out, out_device}
 use Rattle.every_schedule.proofs.WireTraffic.{sent_from, sides_from}
 use Rattle.every_schedule.proofs.OutDevice.{run_is_out}
 use Rattle.process_network.proofs.EndRuns.{star_leaf_runs}

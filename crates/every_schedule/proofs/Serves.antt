@@ -18,14 +18,14 @@ use Rattle.cosim_model.specs.Packets.{Packet, Decoded, Codec}
 use Rattle.cosim_model.specs.Packets.Decoded.{Valid}
 use Rattle.cosim_model.specs.declared.session.Ticket.{Ticket}
 use Rattle.cosim_model.specs.Sessions.{next_number, ticket_of, answer_of, is_posted}
-use Rattle.cosim_model.specs.declared.session.OpenSync.{OpenSync}
-use Rattle.cosim_model.specs.DeviceTurn.{DeviceEnd, settled, want_body, told, level_of, bare_reply, then_settled, device_takes, device_took, reply_from, answer_fields, request_fields}
+use Rattle.ends_model.specs.declared.ends.OpenSync.{OpenSync}
+use Rattle.ends_model.specs.DeviceTurn.{DeviceEnd, settled, want_body, told, level_of, bare_reply, then_settled, device_takes, device_took, reply_from, answer_fields, request_fields}
 use Rattle.cosim_model.specs.declared.values.Plan.{Plan}
-use Rattle.cosim_model.specs.MachineTurn.{MachineEnd, PortEnd, first_true, is_unknown, gather_outlook, least, held_time, serve_outlook, serve_port, serve_packet, after_service, serve_body, Service}
-use Rattle.cosim_model.specs.declared.session.Phase.TheVariants.{Gather}
+use Rattle.ends_model.specs.MachineTurn.{MachineEnd, PortEnd, first_true, is_unknown, gather_outlook, least, held_time, serve_outlook, serve_port, serve_packet, after_service, serve_body, Service}
+use Rattle.ends_model.specs.declared.ends.Phase.TheVariants.{Gather}
 use Rattle.every_schedule.specs.Wires.{Wire, unsettled, sync_ticket, fed_wire, reply_packets}
-use Rattle.cosim_model.specs.Traffic.{reply_body}
-use Rattle.cosim_model.specs.World.{ends}
+use Rattle.ends_model.specs.Traffic.{reply_body}
+use Rattle.ends_model.specs.World.{ends}
 use Rattle.every_schedule.proofs.Takes.{machine_s, own, packet, device_s, gets_read_answer, gets_write_answer, gets_line_answer}
 use Rattle.every_schedule.proofs.Accesses.{want_cmd, want_len, device, asking_leaf, port_with, post_with}
 use Rattle.every_schedule.proofs.Gathers.{answered_at, request_packet, posted_packet, settles_open}

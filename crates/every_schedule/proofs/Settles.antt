@@ -3,8 +3,8 @@ use Rattle.std.proofs.Common.{◌≡◌, ℕ, zero, suc, ◌<◌, Bool, true, fa
 use Rattle.cosim_model.specs.declared.values.Want.{Want}
 use Rattle.cosim_model.specs.Parts.{DeviceModel, IsDevice}
 use Rattle.cosim_model.specs.Packets.{Packet}
-use Rattle.cosim_model.specs.declared.session.OpenSync.{OpenSync}
-use Rattle.cosim_model.specs.DeviceTurn.{DeviceEnd, is_answered, settled, settle, settle_by, settle_want, next_of, joined, asked, told, closed, sync_answer, own_request, bare_reply}
+use Rattle.ends_model.specs.declared.ends.OpenSync.{OpenSync}
+use Rattle.ends_model.specs.DeviceTurn.{DeviceEnd, is_answered, settled, settle, settle_by, settle_want, next_of, joined, asked, told, closed, sync_answer, own_request, bare_reply}
 use Rattle.every_schedule.specs.Wires.{Wire, unsettled, open_if, sync_ticket}
 
 module _ {S : Type 0} (F : Type 0) (d : DeviceModel S) where

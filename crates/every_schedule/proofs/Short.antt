@@ -7,7 +7,7 @@ use Rattle.cosim_model.specs.declared.values.Want.TheVariants.{Fetch, Store, Lin
 use Rattle.cosim_model.specs.Values.{bits_of, all_on}
 use Rattle.cosim_model.specs.Parts.{IsWant}
 use Rattle.cosim_model.specs.Packets.{BusFields, bus_size, body_size, is_extended, enable_byte, enables_if, enables_of}
-use Rattle.cosim_model.specs.DeviceTurn.{request_fields, want_body}
+use Rattle.ends_model.specs.DeviceTurn.{request_fields, want_body}
 use Rattle.every_schedule.proofs.Bytes.{length_flags}
 
 pub enables_short : (common : Caps) (ons : List Bool) (b : Bool) → length (enables_of common ons b) ≤ length ons

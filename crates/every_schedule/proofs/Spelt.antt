@@ -12,10 +12,10 @@ use Rattle.cosim_model.specs.Parts.{MasterModel, IsAccess, IsWant, IsMaster, IsS
 use Rattle.cosim_model.specs.Packets.{FitsLayout, Packet, IsBus, IsWritable, is_response, attributes_of, is_extended, enables_of, enables_if, enable_byte}
 use Rattle.cosim_model.specs.Packets.Body.{Sync}
 use Rattle.cosim_model.specs.Sessions.{request_flags, next_number}
-use Rattle.cosim_model.specs.DeviceTurn.{want_body, request_fields, answer_fields, with_code, level_of}
-use Rattle.cosim_model.specs.MachineTurn.{access_body, access_fields, payload_of}
+use Rattle.ends_model.specs.DeviceTurn.{want_body, request_fields, answer_fields, with_code, level_of}
+use Rattle.ends_model.specs.MachineTurn.{access_body, access_fields, payload_of}
 use Rattle.every_schedule.specs.Wires.{Wire, answer_body}
-use Rattle.cosim_model.specs.Traffic.{reply_body}
+use Rattle.ends_model.specs.Traffic.{reply_body}
 use Rattle.every_schedule.proofs.Lists.{Each}
 use Rattle.every_schedule.proofs.Bytes.{length_bytes, each_byte, length_flags, take_padded}
 use Rattle.every_schedule.proofs.Takes.{packet}

@@ -14,13 +14,13 @@ use Rattle.cosim_model.specs.Packets.Body.{Sync}
 use Rattle.cosim_model.specs.Packets.Decoded.{Valid}
 use Rattle.cosim_model.specs.declared.session.OwnRequest.{OwnRequest}
 use Rattle.cosim_model.specs.Sessions.{request_of, next_number}
-use Rattle.cosim_model.specs.DeviceTurn.{DeviceEnd, device_takes, device_took, device_looks, then_settled, settled, is_answered}
-use Rattle.cosim_model.specs.declared.session.Phase.{Phase}
+use Rattle.ends_model.specs.DeviceTurn.{DeviceEnd, device_takes, device_took, device_looks, then_settled, settled, is_answered}
+use Rattle.ends_model.specs.declared.ends.Phase.{Phase}
 use Rattle.cosim_model.specs.declared.values.Plan.{Plan}
-use Rattle.cosim_model.specs.MachineTurn.{MachineEnd, PortEnd, requested, with_wait, after_sync, sync_outlook, put_port}
-use Rattle.cosim_model.specs.declared.session.Phase.TheVariants.{SyncTo, Gather}
+use Rattle.ends_model.specs.MachineTurn.{MachineEnd, PortEnd, requested, with_wait, after_sync, sync_outlook, put_port}
+use Rattle.ends_model.specs.declared.ends.Phase.TheVariants.{SyncTo, Gather}
 use Rattle.every_schedule.specs.Wires.{Wire, unsettled, behind, sync_sent, sync_ticket}
-use Rattle.cosim_model.specs.World.{ends}
+use Rattle.ends_model.specs.World.{ends}
 use Rattle.every_schedule.specs.Mirror.{port_of, post_of}
 use Rattle.every_schedule.proofs.Lists.{get_mapped}
 use Rattle.every_schedule.proofs.Takes.{device_s, own, packet, gets_sync}

@@ -16,7 +16,7 @@ use Rattle.cosim_model.specs.Sessions.{Session, take_packet, ticket_of, bus_beyo
 use Rattle.cosim_model.specs.declared.session.Role.TheVariants.{Machine, Device}
 use Rattle.cosim_model.specs.declared.session.Event.TheVariants.{Asked, Told, Answered, SyncDone}
 use Rattle.cosim_model.specs.declared.session.SessionFault.TheVariants as session_fault
-use Rattle.cosim_model.specs.DeviceTurn.{request_fields, want_body, is_answered}
+use Rattle.ends_model.specs.DeviceTurn.{request_fields, want_body, is_answered}
 use Rattle.every_schedule.proofs.Base.{same_number, not_below, below_limit}
 
 abbrev pub machine_s : ℕ → Caps → Option OwnRequest → Option OwnRequest → Option Ticket → ℕ → ℕ → Session

@@ -7,7 +7,7 @@ use Rattle.cosim_model.specs.Parts.{DeviceModel}
 use Rattle.cosim_model.specs.Packets.{Packet, Decoded}
 use Rattle.cosim_model.specs.Packets.Decoded.{Valid}
 use Rattle.cosim_model.specs.declared.session.EndFault.{EndFault}
-use Rattle.cosim_model.specs.DeviceTurn.{DeviceEnd, device_takes, device_looks, device_outlook}
+use Rattle.ends_model.specs.DeviceTurn.{DeviceEnd, device_takes, device_looks, device_outlook}
 use Rattle.every_schedule.proofs.Lists.{Each, each_at, get_mid, unmapped}
 use Rattle.every_schedule.proofs.Tails.{IsMatched, IsHeld, IsTail, keeps_matched, keeps_held, last_sends}
 use Rattle.every_schedule.proofs.Spelt.{IsSyncPacket, IsReplyPacket}

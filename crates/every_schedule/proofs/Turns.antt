@@ -10,9 +10,9 @@ use Rattle.process_network.specs.PacketStar.LeafOutlook.{LeafActs, LeafWaits, Le
 use Rattle.cosim_model.specs.declared.session.EndFault.{EndFault}
 use Rattle.cosim_model.specs.Parts.{DeviceModel, MasterModel}
 use Rattle.cosim_model.specs.Packets.{Decoded, Codec}
-use Rattle.cosim_model.specs.DeviceTurn.{DeviceEnd, device_outlook, device_looks}
-use Rattle.cosim_model.specs.MachineTurn.{MachineEnd, machine_outlook}
-use Rattle.cosim_model.specs.World.{ends}
+use Rattle.ends_model.specs.DeviceTurn.{DeviceEnd, device_outlook, device_looks}
+use Rattle.ends_model.specs.MachineTurn.{MachineEnd, machine_outlook}
+use Rattle.ends_model.specs.World.{ends}
 use Rattle.every_schedule.proofs.Leads.{lost, silent_by, silent_move, silent_moves}
 use Rattle.every_schedule.proofs.OutDevice.{one_if, takes_went}
 

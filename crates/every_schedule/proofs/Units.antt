@@ -1,5 +1,5 @@
 -- A unit of the machine.
-use Rattle.cosim_model.specs.World.{Side}
+use Rattle.ends_model.specs.World.{Side}
 use Rattle.cosim_model.specs.Direct.Moment.{Called}
 use Rattle.every_schedule.proofs.Leads.{hub_alone, between}
 use Rattle.every_schedule.proofs.Counted.{IsCount, Counted, count_one, count_tick, lonely_called}
@@ -16,14 +16,14 @@ use Rattle.cosim_model.specs.Values.{plain, all_on, bits_of}
 use Rattle.cosim_model.specs.declared.values.Call.TheVariants as call
 use Rattle.cosim_model.specs.Parts.{DeviceModel, MasterModel, IsDevice, IsMaster, IsAccess}
 use Rattle.cosim_model.specs.Packets.{Packet, Decoded, Codec}
-use Rattle.cosim_model.specs.DeviceTurn.{DeviceEnd, is_answered}
+use Rattle.ends_model.specs.DeviceTurn.{DeviceEnd, is_answered}
 use Rattle.cosim_model.specs.declared.values.Plan.{Plan}
-use Rattle.cosim_model.specs.MachineTurn.{MachineEnd, is_boundary_due, run_outlook, unit_outlook}
-use Rattle.cosim_model.specs.declared.session.Phase.TheVariants.{Run}
-use Rattle.cosim_model.specs.World.{Side}
+use Rattle.ends_model.specs.MachineTurn.{MachineEnd, is_boundary_due, run_outlook, unit_outlook}
+use Rattle.ends_model.specs.declared.ends.Phase.TheVariants.{Run}
+use Rattle.ends_model.specs.World.{Side}
 use Rattle.every_schedule.specs.Wires.{Wire, unread, behind, wired, access_wire}
 use Rattle.cosim_model.specs.Direct.{Direct, unit, unit_of, access_device}
-use Rattle.cosim_model.specs.World.{ends}
+use Rattle.ends_model.specs.World.{ends}
 use Rattle.every_schedule.specs.Mirror.{port_of, post_of}
 use Rattle.every_schedule.proofs.Lists.{Each, each_at, each_set, each_to}
 use Rattle.every_schedule.proofs.PacketFacts.{IsClear}
@@ -34,7 +34,7 @@ use Rattle.every_schedule.proofs.Boundary.{IsPort}
 use Rattle.every_schedule.proofs.Runs.{IsReady, at}
 use Rattle.cosim_model.specs.Packets.{IsWritable}
 use Rattle.cosim_model.specs.Sessions.{request_flags, answered_flags}
-use Rattle.cosim_model.specs.MachineTurn.{access_fields}
+use Rattle.ends_model.specs.MachineTurn.{access_fields}
 use Rattle.every_schedule.specs.Wires.{access_answer, access_packet, answer_body}
 use Rattle.every_schedule.proofs.Spelt.{IsSpelt, one_more, request_fits, answer_fits, want_fits, number_fits}
 use Rattle.every_schedule.proofs.Moves.{Leads, frame}

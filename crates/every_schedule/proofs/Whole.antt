@@ -1,5 +1,5 @@
 -- The run mirrors the direct machine.
-use Rattle.cosim_model.specs.World.{Side}
+use Rattle.ends_model.specs.World.{Side}
 use Rattle.every_schedule.proofs.Leads.{arrives}
 use Rattle.every_schedule.proofs.Counted.{IsCount, Counted, counted_on}
 use Rattle.every_schedule.proofs.WireTraffic.{unit_sides, boundary_sides}
@@ -14,11 +14,11 @@ use Rattle.cosim_model.specs.Values.{bits_of}
 use Rattle.cosim_model.specs.declared.values.Want.TheVariants.{Fetch, Store, Line}
 use Rattle.cosim_model.specs.Parts.{DeviceModel, MasterModel, IsDevice, IsMaster, served, lined}
 use Rattle.cosim_model.specs.Packets.{Packet, Decoded, Codec}
-use Rattle.cosim_model.specs.DeviceTurn.{DeviceEnd}
+use Rattle.ends_model.specs.DeviceTurn.{DeviceEnd}
 use Rattle.cosim_model.specs.declared.values.Plan.{Plan}
-use Rattle.cosim_model.specs.MachineTurn.{MachineEnd, is_last_boundary, at_quantum, least}
-use Rattle.cosim_model.specs.declared.session.Phase.TheVariants.{Run, Done}
-use Rattle.cosim_model.specs.World.{Side}
+use Rattle.ends_model.specs.MachineTurn.{MachineEnd, is_last_boundary, at_quantum, least}
+use Rattle.ends_model.specs.declared.ends.Phase.TheVariants.{Run, Done}
+use Rattle.ends_model.specs.World.{Side}
 use Rattle.every_schedule.specs.Wires.{Wire, sends_of, unread, sync_sent, wired, gathered_by, fed_wire}
 use Rattle.cosim_model.specs.Direct.{Direct, mark, unit, boundary, boundary_if, met_quantum, direct_from, advance_all, serve_all, serve_one, serve_next, serve_device, serve_want, all_left, want_time}
 use Rattle.every_schedule.proofs.Base.{same_number, other_number}

@@ -13,13 +13,13 @@ use Rattle.cosim_model.specs.Values.{plain}
 use Rattle.cosim_model.specs.Parts.{DeviceModel, MasterModel, IsDevice, served}
 use Rattle.cosim_model.specs.Packets.{Packet}
 use Rattle.cosim_model.specs.Packets.Body.{Sync}
-use Rattle.cosim_model.specs.DeviceTurn.{DeviceEnd}
-use Rattle.cosim_model.specs.MachineTurn.{access_body}
+use Rattle.ends_model.specs.DeviceTurn.{DeviceEnd}
+use Rattle.ends_model.specs.MachineTurn.{access_body}
 use Rattle.cosim_model.specs.Order.{least, at_quantum}
 use Rattle.cosim_model.specs.Direct.{Direct, Moment, mark, unit, unit_of, access_device, boundary, boundary_if, met_quantum, direct_from, advance_all, serve_all, serve_one, serve_next, serve_device, serve_want, all_left, want_time}
 use Rattle.cosim_model.specs.Direct.Moment.{Called, Boundary}
-use Rattle.cosim_model.specs.Traffic.{Sent, replies, with_request, with_reply, after_call, after_moment, after_history, after_hello}
-use Rattle.cosim_model.specs.World.{Side}
+use Rattle.ends_model.specs.Traffic.{Sent, replies, with_request, with_reply, after_call, after_moment, after_history, after_hello}
+use Rattle.ends_model.specs.World.{Side}
 use Rattle.every_schedule.specs.Wires.{Wire, unread, sends_of, early, gathered_by, fed_wire, sync_sent, access_wire, access_sent, replies_to, reply_packets, wired}
 use Rattle.every_schedule.proofs.Base.{same_number}
 use Rattle.std.proofs.lemmas.List.{map-set}

@@ -3,10 +3,10 @@ use Rattle.std.specs.Prelude.{ℕ, zero, suc, ◌+◌, ◌&&◌, Bool, true, fal
 use Rattle.cosim_model.specs.declared.values.Call.TheVariants as call
 use Rattle.cosim_model.specs.declared.values.Want.{Want}
 use Rattle.cosim_model.specs.Packets.{Decoded, Codec}
-use Rattle.cosim_model.specs.DeviceTurn.{is_answered}
+use Rattle.ends_model.specs.DeviceTurn.{is_answered}
 use Rattle.cosim_model.specs.Direct.{Moment}
 use Rattle.cosim_model.specs.Direct.Moment.{Called, Boundary}
-use Rattle.cosim_model.specs.World.{Side}
+use Rattle.ends_model.specs.World.{Side}
 
 -- The accesses of a history.
 

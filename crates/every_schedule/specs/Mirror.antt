@@ -11,10 +11,10 @@ use Rattle.cosim_model.specs.declared.session.Ticket.{Ticket}
 use Rattle.cosim_model.specs.declared.session.OwnRequest.{OwnRequest}
 use Rattle.cosim_model.specs.Sessions.{Session, ticket_of, is_posted}
 use Rattle.cosim_model.specs.declared.session.Role.TheVariants.{Machine}
-use Rattle.cosim_model.specs.DeviceTurn.{DeviceEnd, settled}
-use Rattle.cosim_model.specs.declared.session.Phase.{Phase}
+use Rattle.ends_model.specs.DeviceTurn.{DeviceEnd, settled}
+use Rattle.ends_model.specs.declared.ends.Phase.{Phase}
 use Rattle.cosim_model.specs.declared.values.Plan.{Plan}
-use Rattle.cosim_model.specs.MachineTurn.{MachineEnd, PortEnd}
+use Rattle.ends_model.specs.MachineTurn.{MachineEnd, PortEnd}
 use Rattle.cosim_model.specs.Direct.{Direct}
 use Rattle.every_schedule.specs.Wires.{Wire, unsettled, sends_of, unread}
 

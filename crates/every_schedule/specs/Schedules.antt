@@ -4,15 +4,15 @@ use Rattle.process_network.specs.Network.{IsPrefix, Streams, sum_below}
 use Rattle.process_network.specs.Star.{StarWorld, StarStep, star_effective, star_effective_steps, hub_received, link}
 use Rattle.process_network.specs.StarTalk.{IsHubRun, StarTalk}
 use Rattle.process_network.specs.PacketStar.{HubEnd, LeafEnd, star_of, fresh_hub, written}
-use Rattle.cosim_model.specs.declared.session.Phase.TheVariants.{Done}
+use Rattle.ends_model.specs.declared.ends.Phase.TheVariants.{Done}
 use Rattle.cosim_model.specs.declared.values.Plan.{Plan}
 use Rattle.cosim_model.specs.Parts.{DeviceModel, MasterModel}
 use Rattle.cosim_model.specs.Packets.{Packet, Codec}
-use Rattle.cosim_model.specs.DeviceTurn.{DeviceEnd}
-use Rattle.cosim_model.specs.MachineTurn.{MachineEnd}
+use Rattle.ends_model.specs.DeviceTurn.{DeviceEnd}
+use Rattle.ends_model.specs.MachineTurn.{MachineEnd}
 use Rattle.cosim_model.specs.Direct.{Direct, direct}
-use Rattle.cosim_model.specs.Traffic.{wire_out, out_device}
-use Rattle.cosim_model.specs.World.{Side, ends, machine_start, device_start, of_port, start, world}
+use Rattle.ends_model.specs.Traffic.{wire_out, out_device}
+use Rattle.ends_model.specs.World.{Side, ends, machine_start, device_start, of_port, start, world}
 use Rattle.every_schedule.specs.Counts.{accesses_in, lonely_in, posted_in, packets_in}
 
 module _ {M S F : Type 0} (k : MasterModel M) (d : DeviceModel S) (codec : Codec F) (plan : Plan) (m : M) (xs : List (Side × S)) where

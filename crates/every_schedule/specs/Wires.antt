@@ -15,11 +15,11 @@ use Rattle.cosim_model.specs.Packets.Body.{Read, Write, Sync}
 use Rattle.cosim_model.specs.declared.session.Ticket.{Ticket}
 use Rattle.cosim_model.specs.Sessions.{Session, fresh_session, next_number, hello_of, request_flags, answer_of, ticket_of, is_posted}
 use Rattle.cosim_model.specs.declared.session.Role.TheVariants.{Machine, Device}
-use Rattle.cosim_model.specs.declared.session.OpenSync.{OpenSync}
-use Rattle.cosim_model.specs.World.{Side}
-use Rattle.cosim_model.specs.Traffic.{reply_body}
-use Rattle.cosim_model.specs.DeviceTurn.{DeviceEnd, settled, answer_fields}
-use Rattle.cosim_model.specs.MachineTurn.{access_body, access_fields, time_of}
+use Rattle.ends_model.specs.declared.ends.OpenSync.{OpenSync}
+use Rattle.ends_model.specs.World.{Side}
+use Rattle.ends_model.specs.Traffic.{reply_body}
+use Rattle.ends_model.specs.DeviceTurn.{DeviceEnd, settled, answer_fields}
+use Rattle.ends_model.specs.MachineTurn.{access_body, access_fields, time_of}
 
 -- `next` is the machine's next number, `asks` the number of the device's present request, or of its next one. `held`: the
 -- machine has taken that request. `synced`: the machine has not taken the answer of its sync, whose number is `sync_id`.

@@ -9,7 +9,7 @@ ghost use Rattle.std.specs.Prelude.{List};
 ghost use Rattle.cosim_model.specs.declared.values.Plan.{Plan};
 ghost use Rattle.cosim_model.specs.Parts.{DeviceModel, MasterModel, IsDevice, IsMaster};
 ghost use Rattle.cosim_model.specs.Packets.{Codec, IsCodec};
-ghost use Rattle.cosim_model.specs.World.{Side, Fit};
+ghost use Rattle.ends_model.specs.World.{Side, Fit};
 ghost use Rattle.every_schedule.specs.Schedules.{IsEverySchedule, HasRoom, IsBounded, DrivesWell};
 
 /// A master, a device and a codec that keep their laws. The type is the master's state.

@@ -1,13 +1,11 @@
 -- A network of processes that are joined by queues of bytes.
 -- Nodes have numbers. There is a queue from each node to each node.
+pub use Rattle.byte_streams.specs.Prefixes.{IsPrefix}
 use Rattle.std.specs.Prelude.{◌≡◌, ℕ, zero, suc, ◌+◌, ◌-◌, ◌≤◌, ◌≢◌, ◌⊎◌, ◌==◌, min, Bool, true, false, List, [], ◌∷◌, ◌++◌, length, take, Option, Some, None, is_some, nat_lt, if◌then◌else◌}
 
 -- A function of the nodes that differs from f at i alone.
 abbrev pub update : {A : Type 0} → (ℕ → A) → ℕ → A → ℕ → A
 update f i v j = if j == i then v else f j
-
-abbrev pub IsPrefix : {X : Type 0} → List X → List X → Type 0
-IsPrefix {X} xs ys = (rest : List X) × (xs ++ rest ≡ ys)
 
 -- What a node reads or sends, by the other node.
 abbrev pub Streams : Type 0

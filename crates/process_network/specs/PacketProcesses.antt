@@ -1,4 +1,5 @@
 -- Processes that act by themselves, wait for one whole message on one port, or have halted.
+pub use Rattle.byte_streams.specs.Messages.{IsDecided}
 use Rattle.std.specs.Prelude.{◌≡◌, ℕ, ◌+◌, ◌<◌, ◌≤◌, List, ◌++◌, length, drop, Option, Some, None}
 use Rattle.process_network.specs.Network.{update, Streams, Network}
 
@@ -14,12 +15,6 @@ pub record Protocol (C M : Type 0) : Type 0 where
   pub outlook : ℕ → C → Outlook C
   pub take_packet : ℕ → C → M → C × Streams
   pub first : List ℕ → Option (M × ℕ)
-
--- A whole message is decided by its own bytes.
-abbrev pub IsDecided : {M : Type 0} → (List ℕ → Option (M × ℕ)) → Type 0
-IsDecided {M} first =
-    (xs ys : List ℕ) (r : M × ℕ) → first xs ≡ Some r → (0 < r.1) × (r.1 ≤ length xs)
-    × (first (xs ++ ys) ≡ Some r)
 
 -- What a process is, and how many bytes of each port it has taken.
 pub record ProcessState (C : Type 0) : Type 0 where

@@ -3,7 +3,7 @@ use Rattle.std.proofs.Common.{◌≡◌, inl, inr, ℕ, ◌+◌, ◌<◌, ◌≤
 use Rattle.std.specs.Prelude.{nat_lt, if◌then◌else◌, Option, Some, None}
 use Rattle.std.proofs.lemmas.List.{length-append, length-drop, take-append-le, drop-append-le}
 use Rattle.std.proofs.lemmas.Bool.Decides.{nat_tests}
-use Rattle.process_network.specs.PacketProcesses.{IsDecided}
+use Rattle.byte_streams.specs.Messages.{IsDecided}
 use Rattle.cosim_model.specs.Values.{bit}
 use Rattle.cosim_model.specs.Packets.{Packet, Decoded}
 use Rattle.cosim_model.specs.Packets.Decoded.{Valid, Malformed}

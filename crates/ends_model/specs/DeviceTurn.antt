@@ -21,7 +21,7 @@ use Rattle.cosim_model.specs.Sessions.{Session, take_packet, hello_of, hello_sen
 use Rattle.cosim_model.specs.declared.session.Event.TheVariants.{Asked, Told, Answered}
 use Rattle.cosim_model.specs.declared.session.EndFault.{EndFault}
 use Rattle.cosim_model.specs.declared.session.EndFault.TheVariants as end_fault
-use Rattle.cosim_model.specs.declared.session.OpenSync.{OpenSync}
+use Rattle.ends_model.specs.declared.ends.OpenSync.{OpenSync}
 
 -- `answered_lines` is the port's option on lines, and `own` the want whose request awaits its answer. A fault is kept, and then
 -- the end takes no more turns. What it has received and not taken is not part of it.

@@ -13,11 +13,11 @@ use Rattle.cosim_model.specs.Parts.{DeviceModel}
 use Rattle.cosim_model.specs.Packets.{Body, Packet, Decoded, Codec, spell}
 use Rattle.cosim_model.specs.Packets.Body.{Read, Write, Sync}
 use Rattle.cosim_model.specs.Sessions.{fresh_session, next_number, hello_of, request_flags, answer_of, ticket_of}
-use Rattle.cosim_model.specs.DeviceTurn.{DeviceEnd, answer_fields, want_body, is_answered, device_outlook, device_hears}
-use Rattle.cosim_model.specs.MachineTurn.{access_body}
+use Rattle.ends_model.specs.DeviceTurn.{DeviceEnd, answer_fields, want_body, is_answered, device_outlook, device_hears}
+use Rattle.ends_model.specs.MachineTurn.{access_body}
 use Rattle.cosim_model.specs.Direct.{Moment}
 use Rattle.cosim_model.specs.Direct.Moment.{Called, Boundary}
-use Rattle.cosim_model.specs.World.{Side}
+use Rattle.ends_model.specs.World.{Side}
 
 -- What the machine end has sent on a port. `next` is the number of its next request there, and `asks` that of the device's next
 -- request, posted ones counted.

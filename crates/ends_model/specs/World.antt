@@ -11,8 +11,8 @@ use Rattle.cosim_model.specs.Values.{all_caps, no_caps}
 use Rattle.cosim_model.specs.Parts.{DeviceModel, MasterModel}
 use Rattle.cosim_model.specs.Packets.{Decoded, Codec, spell}
 use Rattle.cosim_model.specs.Sessions.{fresh_session}
-use Rattle.cosim_model.specs.DeviceTurn.{DeviceEnd, device_outlook, device_hears, fresh_device}
-use Rattle.cosim_model.specs.MachineTurn.{MachineEnd, machine_outlook, machine_takes, fresh_machine}
+use Rattle.ends_model.specs.DeviceTurn.{DeviceEnd, device_outlook, device_hears, fresh_device}
+use Rattle.ends_model.specs.MachineTurn.{MachineEnd, machine_outlook, machine_takes, fresh_machine}
 
 -- What a port's end is made with: the capabilities that it offers, those that its device needs, and whether it sends a line so that
 -- it is answered, where that is common.

@@ -3,8 +3,8 @@
 use Rattle.cosim_model.specs.declared.values.Plan.{Plan}
 pub use Rattle.cosim_model.specs.Order.{later, lower, least, at_quantum}
 use Rattle.std.specs.Prelude.{ℕ, zero, suc, Bool, true, false, not, ◌&&◌, ◌||◌, if◌then◌else◌, nat_eq, nat_lt, nat_le, List, [], ◌∷◌, ◌++◌, length, set, replicate, map, Option, Some, None, is_some, is_none, option_map, slice_get, Result, Ok, Err}
-use Rattle.cosim_model.specs.declared.session.Phase.{Phase}
-use Rattle.cosim_model.specs.declared.session.Phase.TheVariants.{Greet, Meet, Run, AnswerFrom, SyncTo, Gather, Done}
+use Rattle.ends_model.specs.declared.ends.Phase.{Phase}
+use Rattle.ends_model.specs.declared.ends.Phase.TheVariants.{Greet, Meet, Run, AnswerFrom, SyncTo, Gather, Done}
 use Rattle.process_network.specs.PacketStar.{HubOutlook}
 use Rattle.process_network.specs.PacketStar.HubOutlook.{HubActs, HubWaits, HubHalts}
 use Rattle.cosim_model.specs.declared.values.Access.{Access}
@@ -24,7 +24,7 @@ use Rattle.cosim_model.specs.declared.session.Event.{Event}
 use Rattle.cosim_model.specs.Sessions.{Session, take_packet, hello_of, hello_sent, begin_wait, request_sent, request_of, answer_of, other_answered, ticket_of, is_posted}
 use Rattle.cosim_model.specs.declared.session.Event.TheVariants.{Nothing, Met, Asked, Told, Answered, SyncDone}
 use Rattle.cosim_model.specs.declared.session.EndFault.{EndFault}
-use Rattle.cosim_model.specs.DeviceTurn.{request_fields, answer_fields, refused_read, refused_write, is_whole_width, bare_reply}
+use Rattle.ends_model.specs.DeviceTurn.{request_fields, answer_fields, refused_read, refused_write, is_whole_width, bare_reply}
 use Rattle.cosim_model.specs.declared.session.EndFault.TheVariants as end_fault
 
 -- A port of the machine end. `held` is a request that was taken and is not served, and `last` the time of the latest request sent.

@@ -1,0 +1,4 @@
+pub mod DeviceTurn
+pub mod MachineTurn
+pub mod World
+pub mod Traffic

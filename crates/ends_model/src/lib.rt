@@ -1,0 +1,6 @@
+//! The two ends of a link as definitions: what one turn of each does, the traffic between them, and the world that they make.
+#![tactic(auto)]
+
+mod ends;
+
+pub use ends::{OpenSync, Phase};
