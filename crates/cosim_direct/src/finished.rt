@@ -5,7 +5,7 @@ ghost use Rattle.cos_parts.specs.AnyMasters as any_masters;
 ghost use Rattle.cos_parts.specs.AnyDevices as any_devices;
 ghost use Rattle.transcript.specs.CallLines.{HasLine};
 ghost use Rattle.transcript.specs.ClosingLines.{run_text};
-ghost use Rattle.world.specs.Outcomes.{IsFresh, IsPlan};
+ghost use Rattle.direct_machine.specs.Outcomes.{IsFresh, IsPlan};
 ghost use Rattle.cosim_direct.specs.Texts.{uarts_from, run_lines};
 
 use cos_api::{Calls, Master};
@@ -62,7 +62,7 @@ pub fn run(
     let mut piece = Octets::make(alloc);
     piece.reserve(PIECE)?;
     let uarts = uarts(alloc, ports)?;
-    let direct = world::direct(alloc, master, devices, plan)?;
+    let direct = direct_machine::direct(alloc, master, devices, plan)?;
     let outs = outs_of(alloc, &direct.calls, uarts.as_slice())?;
     let end = Ending {
         stop: direct.master.stopped(),

@@ -12,7 +12,7 @@ use std::alloc::Global;
 use std::process::Abort;
 use sys_bus::{Map, RvMaster, Window};
 use sys_ram::Ram;
-use world::direct;
+use direct_machine::direct;
 
 /// It sends the byte 65 by a UART at 0x10000000, and stops the machine with code 0:
 /// lui x1, 0x10000; addi x2, x0, 65; sw x2, 0(x1); lui x3, 0x100; sw x0, 0(x3); jal x0, 0.

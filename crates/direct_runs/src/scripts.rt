@@ -14,8 +14,8 @@ use dev_timer::Timer;
 use std::alloc::Global;
 use std::process::Abort;
 use sys_ram::Ram;
-use world::outcome::Direct;
-use world::{direct, direct_by_port};
+use direct_machine::outcome::Direct;
+use direct_machine::{direct, direct_by_port};
 
 const PLAN: Plan = Plan {
     quantum: 10,

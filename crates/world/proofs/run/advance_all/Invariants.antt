@@ -1,6 +1,0 @@
-use Rattle.std.proofs.Common.{◌≡◌}
-use Rattle.world.proofs.Lists.{changed}
-use Rattle.world.proofs.run.advance_all.Given as goal
-
-abbrev pub invariant-devices : goal.invariant-devices
-invariant-devices g l = l.devices ≡ changed (λ s. g.D.Device.model.advance s l.tick) l.device-index l.fn.devices

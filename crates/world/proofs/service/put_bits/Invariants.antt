@@ -1,6 +1,0 @@
-use Rattle.std.proofs.Common.{◌≡◌, ◌-◌, ◌++◌, length, take}
-use Rattle.world.specs.Lanes.{bit_bytes}
-use Rattle.world.proofs.service.put_bits.Given as goal
-
-abbrev pub invariant-loop-at : goal.invariant-loop-at
-invariant-loop-at l = take l.at l.out ++ bit_bytes l.left (length l.out - l.at) ≡ bit_bytes l.fn.mask (length l.fn.out)
