@@ -234,17 +234,20 @@ abbrev pub awaiting : Session → Body → ℕ → Session
 awaiting s (Sync time) len = record s { next = next_number s.next; own_sync = Some (record { cmd = command.Sync; id = s.next; len = len }) }
 awaiting s b len = record s { next = next_number s.next; own_other = Some (record { cmd = command_of b; id = s.next; len = len }) }
 
--- The Boolean says that the request is posted.
+abbrev pub unless_posted : Bool → Session → Body → ℕ → Session
+unless_posted true s b len = record s { next = next_number s.next }
+unless_posted false s b len = awaiting s b len
+
+-- The flag says that it is sent as posted. It awaits an answer exactly where it isn't posted.
 abbrev pub request_sent : Session → Bool → Body → ℕ → Session
-request_sent s true b len = record s { next = next_number s.next }
-request_sent s false b len = awaiting s b len
+request_sent s flag b len = unless_posted (is_posted_body s.common flag b) s b len
 
 abbrev pub request_flags : Bool → ℕ
 request_flags true = 4
 request_flags false = 0
 
 abbrev pub request_of : Session → Bool → Body → Packet
-request_of s posted b = record { id = s.next; flags = request_flags posted; dev = 0; body = b }
+request_of s flag b = record { id = s.next; flags = request_flags flag; dev = 0; body = b }
 
 -- An answer has the flags of its request with bit 1 set.
 

@@ -20,7 +20,7 @@ use Rattle.cosim_model.specs.Packets.Body.{Read, Write}
 use Rattle.cosim_model.specs.Packets.Decoded.{Valid}
 use Rattle.cosim_model.specs.declared.session.OwnRequest.{OwnRequest}
 use Rattle.cosim_model.specs.declared.session.Ticket.{Ticket}
-use Rattle.cosim_model.specs.Sessions.{Session, take_packet, answer_of, ticket_of, next_number}
+use Rattle.cosim_model.specs.Sessions.{Session, take_packet, unless_posted, answer_of, ticket_of, next_number}
 use Rattle.cosim_model.specs.declared.session.Event.TheVariants.{Answered, Asked}
 use Rattle.ends_model.specs.declared.ends.OpenSync.{OpenSync}
 use Rattle.ends_model.specs.DeviceTurn.{DeviceEnd, device_takes, device_took, then_settled, answer_fields, answer_read, answer_write, settled, is_answered, want_body, own_request, asked}
@@ -99,12 +99,17 @@ abbrev pub asking_packet : Caps → ℕ → ℕ → Want → Packet
 asking_packet offer id due v = packet id 0 (want_body offer due v)
 
 pub settles_asks : {S : Type 0} (F : Type 0) (d : DeviceModel S) (w : Wire S) (v : Want) → d.want w.device ≡ Some v → is_answered (w.side.offer.posted && w.side.answered_lines) v ≡ true → settled {F = F} d (unsettled w) ≡ (asking_leaf F w v, asking_packet w.side.offer w.asks (d.due w.device) v ∷ [])
-settles_asks {S} F d w v e a = settles_asking F d w v e a ∙ by v
+settles_asks {S} F d w v e a = settles_asking F d w v e a ∙ by v a
   where
-    by : (v : Want) → ◌≡◌ {A = DeviceEnd S F × List Packet} (asked d (unsettled w) v, own_request {F = F} d (unsettled w) false v ∷ []) (asking_leaf F w v, asking_packet w.side.offer w.asks (d.due w.device) v ∷ [])
-    by (Fetch addr size) = refl
-    by (Store addr size bytes mask) = refl
-    by (Line number level) = refl
+    both_true : (x y : Bool) → (x && y) ≡ true → x ≡ true
+    both_true true y e = refl
+    both_true false y e = e
+
+    by : (v : Want) → is_answered (w.side.offer.posted && w.side.answered_lines) v ≡ true → ◌≡◌ {A = DeviceEnd S F × List Packet} (asked d (unsettled w) v, own_request {F = F} d (unsettled w) false v ∷ []) (asking_leaf F w v, asking_packet w.side.offer w.asks (d.due w.device) v ∷ [])
+    by (Fetch addr size) a = refl
+    by (Store addr size bytes mask) a = refl
+    by (Line number level) a =
+        ap (λ (posted : Bool). (record (unsettled {F = F} w) { session = unless_posted (not posted) (unsettled {F = F} w).session (want_body w.side.offer (d.due w.device) (Line number level)) 0; own = Some (Line number level) }, asking_packet w.side.offer w.asks (d.due w.device) (Line number level) ∷ [])) (both_true w.side.offer.posted w.side.answered_lines a)
 
 pub time_is : (offer : Caps) (due : ℕ) (v : Want) → time_of (want_body offer due v) ≡ due
 time_is offer due (Fetch addr size) = refl

@@ -15,7 +15,7 @@ use Rattle.cosim_model.specs.Parts.{DeviceModel, MasterModel}
 use Rattle.cosim_model.specs.Packets.{Body, Packet, Decoded, Codec, is_response}
 use Rattle.cosim_model.specs.Packets.Body.{Nop, Hello, Cfg, Read, Write, Interrupt, Sync}
 use Rattle.cosim_model.specs.Packets.Decoded.{Valid, Malformed}
-use Rattle.cosim_model.specs.Sessions.{Session, is_posted, fault_of, counted, asked_at, event_of, judged, take_kept, take_packet, request_sent}
+use Rattle.cosim_model.specs.Sessions.{Session, is_posted, fault_of, counted, asked_at, event_of, judged, take_kept, take_packet, is_posted_body, unless_posted, request_sent}
 use Rattle.ends_model.specs.DeviceTurn.{DeviceEnd, body_len, is_answered, is_device_size, want_body, answer_read, answer_write, do_posted, answered_own, acts, own_sent, told, settle_want, settle_by, settle, joined, next_of, device_judges, device_takes, device_looks}
 use Rattle.ends_model.specs.MachineTurn.{MachineEnd}
 use Rattle.ends_model.specs.Traffic.{leaf_after, leaf_sends, sent_in, out_device}
@@ -51,15 +51,18 @@ take_went s p = kept s.fault
     kept (Some f) = refl
     kept None = judges (fault_of s p)
 
-request_went : (s : Session) (b : Bool) (x : Body) (n : ℕ) → (request_sent s b x n).hello_went ≡ s.hello_went
-request_went s true x n = refl
-request_went s false (Sync t) n = refl
-request_went s false Nop n = refl
-request_went s false (Hello a b c) n = refl
-request_went s false (Cfg a b) n = refl
-request_went s false (Read f) n = refl
-request_went s false (Write f) n = refl
-request_went s false (Interrupt a b c x) n = refl
+unless_went : (posted : Bool) (s : Session) (x : Body) (n : ℕ) → (unless_posted posted s x n).hello_went ≡ s.hello_went
+unless_went true s x n = refl
+unless_went false s (Sync t) n = refl
+unless_went false s Nop n = refl
+unless_went false s (Hello a b c) n = refl
+unless_went false s (Cfg a b) n = refl
+unless_went false s (Read f) n = refl
+unless_went false s (Write f) n = refl
+unless_went false s (Interrupt a b c x) n = refl
+
+request_went : (s : Session) (flag : Bool) (x : Body) (n : ℕ) → (request_sent s flag x n).hello_went ≡ s.hello_went
+request_went s flag x n = unless_went (is_posted_body s.common flag x) s x n
 
 module _ {S F : Type 0} (d : DeviceModel S) where
   abbrev went : DeviceEnd S F → Bool

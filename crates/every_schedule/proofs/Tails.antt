@@ -2,6 +2,7 @@
 use Rattle.std.proofs.Common.{◌≡◌, ℕ, zero, suc, ◌⊎◌, inl, inr, Bool, true, false, not, ◌&&◌, List, [], ◌∷◌, ◌++◌, Option, Some, None, is_some, refl, sym, ap, ap₂, ◌∙◌, subst}
 use Rattle.std.proofs.lemmas.Option.{none-some}
 use Rattle.cosim_model.specs.declared.values.Want.{Want}
+use Rattle.cosim_model.specs.declared.values.Want.TheVariants.{Fetch, Store, Line}
 use Rattle.cosim_model.specs.Parts.{DeviceModel}
 use Rattle.cosim_model.specs.Packets.{Body, Packet, is_response, cmd_of}
 use Rattle.cosim_model.specs.Packets.Body.{Nop, Hello, Cfg, Read, Write, Interrupt, Sync}
@@ -79,17 +80,22 @@ module _ {S F : Type 0} (d : DeviceModel S) where
   settle_matched zero e c = c
   settle_matched (suc n) e c = go e.session.hello_came e.own refl (d.want e.device) e.open_sync (λ e' c'. settle_matched n e' c')
     where
-      wanted : e.own ≡ None → (v : Want) (s : Option OpenSync) (b : Bool) → ((e' : DeviceEnd S F) → IsMatched e' → IsMatched (settle d n e').0) → IsMatched (joined (settle_want d e v s b) (settle d n (next_of (settle_want d e v s b)))).0
-      wanted f v s true ih = λ h. absurd (none-some v (sym h))
-      wanted f v None false ih = c
-      wanted f v (Some o) false ih = ih (told d e v) (λ h. c f)
+      answered : Bool
+      answered = e.session.common.posted && e.answered_lines
+
+      wanted : e.own ≡ None → (v : Want) (s : Option OpenSync) (b : Bool) → is_answered answered v ≡ b → ((e' : DeviceEnd S F) → IsMatched e' → IsMatched (settle d n e').0) → IsMatched (joined (settle_want d e v s b) (settle d n (next_of (settle_want d e v s b)))).0
+      wanted f v s true eb ih = λ h. absurd (none-some v (sym h))
+      wanted f v None false eb ih = c
+      wanted f (Line number level) (Some o) false eb ih = ih (told d e (Line number level)) (λ h. c f)
+      wanted f (Fetch addr size) (Some o) false eb ih = absurd (tf eb)
+      wanted f (Store addr size bytes mask) (Some o) false eb ih = absurd (tf eb)
 
       go : (b : Bool) (own : Option Want) → e.own ≡ own → (o : Option Want) (s : Option OpenSync) → ((e' : DeviceEnd S F) → IsMatched e' → IsMatched (settle d n e').0) → IsMatched (joined (settle_by d e b own o s) (settle d n (next_of (settle_by d e b own o s)))).0
       go false own f o s ih = c
       go true (Some w) f o s ih = c
       go true None f None None ih = c
       go true None f None (Some q) ih = c
-      go true None f (Some v) s ih = wanted f v s (is_answered (e.session.common.posted && e.answered_lines) v) ih
+      go true None f (Some v) s ih = wanted f v s (is_answered answered v) refl ih
 
   settle_held : (n : ℕ) (e : DeviceEnd S F) → is_some e.open_sync ≡ true → IsHeld (settle d n e).0
   settle_held zero e h = inl h

@@ -1,5 +1,6 @@
 -- What the tags of own requests and answers are, and which requests are out.
-use Rattle.std.specs.Prelude.{◌≡◌, ℕ, Bool, true, false, Option, Some}
+use Rattle.std.specs.Prelude.{◌≡◌, ℕ, Bool, true, false, not, ◌||◌, Option, Some}
+use Rattle.cosim_model.specs.declared.values.Caps.{Caps}
 use Rattle.cosim_model.specs.declared.session.Command.{Command}
 use Rattle.cosim_model.specs.declared.session.Command.TheVariants as command
 use Rattle.cosim_model.specs.declared.session.Event.{Event}
@@ -38,6 +39,16 @@ answered s command.Cfg = other_answered s
 answered s command.Read = other_answered s
 answered s command.Write = other_answered s
 answered s command.Interrupt = other_answered s
+
+-- whether a request of a command, sent so, has no answer
+abbrev pub is_posted_kind : Caps → Bool → Command → Bool
+is_posted_kind common flag command.Write = flag
+is_posted_kind common flag command.Interrupt = flag || not common.posted
+is_posted_kind common flag command.Nop = false
+is_posted_kind common flag command.Hello = false
+is_posted_kind common flag command.Cfg = false
+is_posted_kind common flag command.Read = false
+is_posted_kind common flag command.Sync = false
 
 -- the session once a request of a command went; a posted one awaits no answer
 abbrev pub requested : Session → Bool → Command → ℕ → Session

@@ -3,12 +3,14 @@ ghost use Rattle.std.specs.Prelude.{◌≡◌, length};
 ghost use Rattle.cosim_model.specs.Packets.{BusFields, is_response as is_answer};
 ghost use Rattle.cosim_model.specs.Sessions.{fault_if, or_else, is_posted, hello_missing, hello_again, wrong_version, lacking, hello_lacks, unsupported, is_none_byte, bus_beyond, not_in_common, time_backwards, early_posted, is_taken, is_answer_of, wrong_len};
 ghost use Rattle.rp_session.specs.Rows.{stray_row, wrong_row, second_row};
+ghost use Rattle.rp_session.specs.Tags.{is_posted_kind};
 ghost use Rattle.rp_busaccess.specs.Bits.{fields_of};
 ghost use Rattle.rp_packet.specs.Values.{value_of};
 
 use crate::looks::{command_number, command_of, is_flagged_posted, is_response, tag_of};
 use cosim_model::{OwnRequest, Role, SessionFault, Ticket};
 use rp_control::{Caps, caps_of};
+use rp_header::Command;
 use rp_packet::{BusAccess, Packet};
 
 /// The fault, where it is one.
@@ -43,6 +45,21 @@ pub(crate) fn is_posted(common: Caps, packet: &Packet) -> bool
         Packet::Cfg(..) => false,
         Packet::Read(..) => false,
         Packet::Sync(..) => false,
+    }
+}
+
+/// Whether a request of this kind, sent as posted or not, has no answer.
+pub(crate) fn is_posted_kind(common: Caps, posted: bool, kind: Command) -> bool
+    ensures { result ≡ is_posted_kind common posted kind }
+{
+    match kind {
+        Command::Write => posted,
+        Command::Interrupt => posted || !common.posted,
+        Command::Nop => false,
+        Command::Hello => false,
+        Command::Cfg => false,
+        Command::Read => false,
+        Command::Sync => false,
     }
 }
 

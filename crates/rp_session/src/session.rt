@@ -3,9 +3,9 @@ ghost use Rattle.std.specs.Prelude.{◌≡◌, ℕ, false, true, Some, None, IfO
 
 use crate::looks::{is_response, tag_of, ticket_of};
 use crate::rows::{
-    early_posted, fault_if, hello_again, hello_lacks, hello_missing, is_posted, not_in_common,
-    or_else, second_request, stray_answer, time_backwards, unsupported, wrong_answer,
-    wrong_version,
+    early_posted, fault_if, hello_again, hello_lacks, hello_missing, is_posted, is_posted_kind,
+    not_in_common, or_else, second_request, stray_answer, time_backwards, unsupported,
+    wrong_answer, wrong_version,
 };
 use cos_base::{NoMemory, Numbers};
 use cosim_model::{Event, OwnRequest, Role, SessionFault, Ticket};
@@ -102,7 +102,7 @@ impl Session {
     ghost use Rattle.cosim_model.specs.Packets.{Body, command_of, is_response as is_answer};
     ghost use Rattle.cosim_model.specs.Sessions.{fresh_session, begin_wait, hello_of, hello_sent, request_sent, take_packet, flood, own_of, fault_of, counted, event_of};
     ghost use Rattle.rp_packet.specs.Values.{value_of};
-    ghost use Rattle.rp_session.specs.Tags.{own_of_kind, peer_of_kind, answered, requested, IsRequestTag, IsAnswerTag, AsksOf};
+    ghost use Rattle.rp_session.specs.Tags.{own_of_kind, peer_of_kind, answered, is_posted_kind, requested, IsRequestTag, IsAnswerTag, AsksOf};
     ghost use Rattle.rp_session.specs.Rows.{hello_rows, answer_rows, request_rows, other_event};
 
     /// A session in which nothing went or came. `first` is the number of its hello; its requests go on from there.
@@ -174,19 +174,20 @@ impl Session {
         Ok(Packet::Hello(tag, hello))
     }
 
-    /// The tag of an own request. A posted one is numbered too, and awaits no answer. `len` is the number of bytes that a
-    /// read asks for.
+    /// The tag of an own request. `posted` says that it is sent as one that wants no answer. A read or sync has an answer
+    /// all the same, and an interrupt has none without capability 3 in common. A request without an answer is numbered too.
+    /// `len` is the number of bytes that a read asks for.
     pub fn request(&mut self, kind: Command, posted: bool, len: u32) -> Tag
         requires greeted { self.old.hello_went ≡ true }
-        requires free { posted ≡ false → own_of_kind self.old kind ≡ None }
+        requires free { is_posted_kind self.old.common posted kind ≡ false → own_of_kind self.old kind ≡ None }
         ensures tag { IsRequestTag self.old posted result }
-        ensures session { self.new ≡ requested self.old posted kind len }
+        ensures session { self.new ≡ requested self.old (is_posted_kind self.old.common posted kind) kind len }
         ensures sent { (b : Body) → command_of b ≡ kind → self.new ≡ request_sent self.old posted b len }
     {
         let id = self.next;
         let own = OwnRequest { cmd: kind, id, len };
         self.next = id.wrapping_add(1);
-        if !posted {
+        if !is_posted_kind(self.common, posted, kind) {
             match kind {
                 Command::Sync => self.own_sync = Some(own),
                 _ => self.own_other = Some(own),
