@@ -39,3 +39,4 @@ pub mod Turns
 pub mod Bounded
 pub mod Room
 pub mod OverLinks
+pub mod Places

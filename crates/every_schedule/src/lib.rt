@@ -5,11 +5,18 @@
 //! empty body.
 #![tactic(auto)]
 
-ghost use Rattle.std.specs.Prelude.{List};
+ghost use Rattle.std.specs.Prelude.{◌≡◌, ℕ, List, ◌++◌, get_or};
+ghost use Rattle.process_network.specs.Network.{Streams};
+ghost use Rattle.process_network.specs.StarTalk.{IsHubRun, IsLeafRun};
+ghost use Rattle.process_network.specs.PacketStar.{HubEnd, LeafEnd, star_of, fresh_hub, fresh_leaf};
 ghost use Rattle.cosim_model.specs.declared.values.Plan.{Plan};
 ghost use Rattle.cosim_model.specs.Parts.{DeviceModel, MasterModel, IsDevice, IsMaster};
 ghost use Rattle.cosim_model.specs.Packets.{Codec, IsCodec};
-ghost use Rattle.ends_model.specs.World.{Side, Fit};
+ghost use Rattle.cosim_model.specs.Streams.{IsMalformedAt, HasTaken, kept_cause};
+ghost use Rattle.ends_model.specs.DeviceTurn.{DeviceEnd};
+ghost use Rattle.ends_model.specs.MachineTurn.{MachineEnd};
+ghost use Rattle.ends_model.specs.World.{Side, Fit, ends, device_start, machine_start};
+ghost use Rattle.every_schedule.specs.Places.{cause_at};
 ghost use Rattle.every_schedule.specs.Schedules.{IsEverySchedule, HasRoom, IsBounded, DrivesWell};
 
 /// A master, a device and a codec that keep their laws. The type is the master's state.
@@ -61,4 +68,22 @@ pub fn every_schedule<M: System>()
     ensures over_links { (plan : Plan) (m : M) (xs : List (Side × M.Device))
         → Fit M.master M.device plan m xs
         → DrivesWell M.master M.device M.codec plan m xs }
+{}
+
+/// Where an end keeps a malformed packet as its fault, it stands in what was received right behind the packets that the end took.
+///
+/// `device` and `machine`: what an end has taken, after any number of turns over the same received bytes, are packets; or packets and
+/// then the malformed one that it keeps. `one_place`: received bytes are malformed at one place, for one cause. `lasting`: more bytes
+/// behind don't change that.
+pub fn malformed_place<M: System>()
+    ensures device { (side : Side) (s : M.Device) (x : List ℕ) (turns : ℕ) (l : LeafEnd (DeviceEnd M.Device M.Cause)) (sent : List ℕ)
+        → IsLeafRun (star_of (ends M.master M.device M.codec)) (fresh_leaf (device_start M.Cause side s)) x turns l sent
+        → HasTaken M.codec x l.taken (kept_cause l.core.fault) }
+    ensures machine { (plan : Plan) (m : M) (ports : ℕ) (x : Streams) (turns : ℕ) (h : HubEnd (MachineEnd M M.Cause)) (sent : Streams)
+        → IsHubRun (star_of (ends M.master M.device M.codec)) ports (fresh_hub (machine_start M.Cause m ports plan) ports) x turns h sent
+        → (p : ℕ) → HasTaken M.codec (x p) (get_or h.taken p 0) (cause_at p h.core.fault) }
+    ensures one_place { (x : List ℕ) (start other : ℕ) (cause another : M.Cause)
+        → IsMalformedAt M.codec x start cause → IsMalformedAt M.codec x other another → (start ≡ other) × (cause ≡ another) }
+    ensures lasting { (x more : List ℕ) (start : ℕ) (cause : M.Cause)
+        → IsMalformedAt M.codec x start cause → IsMalformedAt M.codec (x ++ more) start cause }
 {}

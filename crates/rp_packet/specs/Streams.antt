@@ -1,9 +1,13 @@
 -- Lists of bytes as streams of packets: what isn't whole yet, what is refused, and what a whole list is.
 use Rattle.std.specs.Prelude.{◌≡◌, ◌⊎◌, ℕ, ◌+◌, ◌<◌, ◌≤◌, List, [], ◌∷◌, ◌++◌, length, Some, None}
-use Rattle.cosim_model.specs.Packets.{Packet}
-use Rattle.rp_packet.specs.Spelling.{Spells}
-use Rattle.rp_packet.specs.Refusals.{place_of, early_refusal, late_refusal, len_at}
+use Rattle.cosim_model.specs.Packets.{Packet, Codec}
+use Rattle.rp_packet.specs.Spelling.{Spells, packet_bytes}
+use Rattle.rp_packet.specs.Refusals.{place_of, early_refusal, late_refusal, len_at, first}
 use Rattle.rp_packet.specs.declared.fault.Cause.{Cause}
+
+-- How the theorems on whole runs see packets.
+abbrev pub packet_codec : Codec Cause
+packet_codec = record { write = packet_bytes; first = first }
 
 -- Bytes are unfinished where fewer are there than a header has, or than a header that isn't refused says.
 abbrev pub Unfinished : List ℕ → Type 0

@@ -35,7 +35,7 @@ Ends b = (v : Packet) (n : ℕ) → first b ≡ Some (Valid v, n) → ⊥
 Ends-unfinished : (b : List ℕ) → Unfinished b → Ends b
 Ends-unfinished b is v n front = absurd (cc (sym (first-unfinished b is) ∙ front))
 
-first-bad : (b : List ℕ) (place : ℕ) (cause : Cause) → Bad b place cause → (n : ℕ) × (first b ≡ Some (Malformed cause, n))
+pub first-bad : (b : List ℕ) (place : ℕ) (cause : Cause) → Bad b place cause → (n : ℕ) × (first b ≡ Some (Malformed cause, n))
 first-bad b place cause is =
     elim is.refused as (λ _. (n : ℕ) × (first b ≡ Some (Malformed cause, n))) [
       | inl early ↦ (20, first-early b cause is.long early)

@@ -2,12 +2,13 @@ ghost use Rattle.std.specs.Prelude.{◌≡◌, ◌⊎◌, ◌∷◌, ◌++◌, L
 ghost use Rattle.cos_base.specs.Octets.{Held};
 ghost use Rattle.cosim_model.specs.Packets.{Packet as PacketValue, IsCodec};
 ghost use Rattle.cosim_model.specs.Packets.Decoded.{Valid, Malformed};
+ghost use Rattle.cosim_model.specs.Streams.{IsMalformedAt};
 ghost use Rattle.rp_header.specs.Numbers.{AreBytes};
 ghost use Rattle.rp_busaccess.specs.declared.fault.WriteFault.{WriteFault};
 ghost use Rattle.rp_packet.specs.declared.fault.Cause.{Cause};
 ghost use Rattle.rp_packet.specs.Spelling.{Spells, Canonical, Fits, Writable, packet_bytes, packet_fault};
 ghost use Rattle.rp_packet.specs.Refusals.{first, place_of};
-ghost use Rattle.rp_packet.specs.Streams.{Unfinished, Bad, Spelled, Stream, Faulty, IsStream, IsFaulty};
+ghost use Rattle.rp_packet.specs.Streams.{packet_codec, Unfinished, Bad, Spelled, Stream, Faulty, IsStream, IsFaulty};
 ghost use Rattle.rp_packet.specs.Writing.{Writes};
 
 /// A list of bytes spells one packet at most, and no spelling is a proper prefix of another.
@@ -35,6 +36,14 @@ pub fn taken_from_the_front()
     ensures refused { (b : List ℕ) (cause : Cause) (n : ℕ) → first b ≡ Some (Malformed cause, n) → Bad b (place_of cause) cause }
 {}
 
+/// A faulty list of bytes and a stream that is malformed, as the theorems on whole runs say it, are one fact: of the same packets,
+/// with the same start and cause.
+pub fn malformed_is_faulty()
+    ensures faulty { (b : List ℕ) (start : ℕ) (cause : Cause) → AreBytes b → (is : IsMalformedAt packet_codec b start cause) → Faulty is.packets b start (place_of cause) cause }
+    ensures malformed { (vs : List PacketValue) (b : List ℕ) (start place : ℕ) (cause : Cause) → Faulty vs b start place cause →
+        (place ≡ place_of cause) × (is : IsMalformedAt packet_codec b start cause) × (is.packets ≡ vs) }
+{}
+
 /// What is written for a value whose numbers fit their fields, as those of each packet in memory do (`numbers_fit`), is a
 /// spelling of it. So it is read as that value again.
 pub fn one_writing()
@@ -55,5 +64,5 @@ pub fn one_canonical_spelling()
 /// The laws of a codec that the theorems on whole runs ask for: what is written is read back whatever follows it, it has the
 /// bytes of its fields, and a whole packet is decided by its own bytes.
 pub fn codec_laws()
-    ensures { IsCodec (record { write = packet_bytes; first = first }) }
+    ensures { IsCodec packet_codec }
 {}

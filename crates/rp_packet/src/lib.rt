@@ -16,8 +16,8 @@ pub use fault::{Cause, PacketFault, ReadFault};
 pub use fitting::numbers_fit;
 pub use judging::is_canonical;
 pub use laws::{
-    codec_laws, every_stream, one_canonical_spelling, one_reading, one_writing,
-    taken_from_the_front,
+    codec_laws, every_stream, malformed_is_faulty, one_canonical_spelling, one_reading,
+    one_writing, taken_from_the_front,
 };
 pub use packet::{Packet, Tag};
 pub use reading::packet_len;
