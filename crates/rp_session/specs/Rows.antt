@@ -7,7 +7,7 @@ use Rattle.cosim_model.specs.declared.session.SessionFault.{SessionFault}
 use Rattle.cosim_model.specs.declared.session.SessionFault.TheVariants as session_fault
 use Rattle.cosim_model.specs.declared.session.Ticket.{Ticket}
 use Rattle.cosim_model.specs.Packets.{Body, Packet, cmd_of, is_response}
-use Rattle.cosim_model.specs.Packets.Body.{Nop, Hello, Cfg, Read, Write, Interrupt, Sync}
+use Rattle.cosim_model.specs.Packets.Body.{Nop, Read, Write, Interrupt, Sync}
 use Rattle.cosim_model.specs.Sessions.{Session, is_posted, fault_if, or_else, hello_missing, hello_again, wrong_version, hello_lacks, unsupported, stray_answer, is_answer_of, wrong_answer, wrong_len, not_in_common, time_backwards, early_posted, is_taken, second_request}
 
 abbrev pub hello_rows : Session → Packet → Option SessionFault

@@ -1,7 +1,7 @@
 use Rattle.std.proofs.Common.{ap, ◌∙◌}
 use Rattle.cosim_model.specs.Sessions.{or_else, flood}
 use Rattle.rp_packet.specs.Values.{value_of}
-use Rattle.rp_session.specs.Rows.{hello_rows, answer_rows, request_rows}
+use Rattle.rp_session.specs.Rows.{hello_rows, answer_rows}
 use Rattle.rp_session.proofs.RowLaws.{rows-joined}
 use Rattle.rp_session.proofs.session.Session.refusal.Goals as goal
 
