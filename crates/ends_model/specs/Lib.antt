@@ -1,4 +1,5 @@
 pub mod DeviceTurn
 pub mod MachineTurn
+pub mod Answers
 pub mod World
 pub mod Traffic

@@ -44,6 +44,38 @@ pub record MachineEnd (M F : Type 0) : Type 0 where
   pub marked : Bool
   pub fault : Option (ℕ × EndFault F)
 
+-- What a machine end does in a turn.
+pub data Act (M F : Type 0) : Type 0 where
+  -- a unit of the master's own
+  Works : (next : MachineEnd M F) → Act M F
+  Sends : (port : ℕ) (packet : Packet) (next : MachineEnd M F) → Act M F
+  -- it takes a packet of the port, where one is whole
+  Awaits : (port : ℕ) → Act M F
+  -- a held request that is posted
+  Serves : (port : ℕ) (next : MachineEnd M F) → Act M F
+  -- a boundary without ports
+  Marks : (next : MachineEnd M F) → Act M F
+  -- it is done
+  Rests : Act M F
+  -- it keeps a fault
+  Fails : (port : ℕ) (fault : EndFault F) → Act M F
+  -- no run comes here: a port that isn't there is named, or nothing is held that could be served
+  Lost : Act M F
+
+abbrev pub outlook_of : {M F : Type 0} → Act M F → HubOutlook (MachineEnd M F) (Decoded F)
+outlook_of (Works next) = HubActs next None
+outlook_of (Sends p x next) = HubActs next (Some (p, Valid x))
+outlook_of (Awaits p) = HubWaits p
+outlook_of (Serves p next) = HubActs next None
+outlook_of (Marks next) = HubActs next None
+outlook_of Rests = HubHalts
+outlook_of (Fails p f) = HubHalts
+outlook_of Lost = HubHalts
+
+abbrev pub at_port : {M F : Type 0} → Option PortEnd → (PortEnd → Act M F) → Act M F
+at_port None act = Lost
+at_port (Some q) act = act q
+
 -- The first place that is true.
 
 abbrev pub or_first : Bool → Option ℕ → Option ℕ
@@ -185,70 +217,83 @@ module _ {M F : Type 0} (k : MasterModel M) where
   abbrev pub finished : MachineEnd M F → ℕ → Access → Answer → MachineEnd M F
   finished h p a x = record (unit_done h (k.finish h.master x)) { calls = h.calls ++ call.Access h.tick p a x ∷ [] }
 
-  -- Turns that take no packet, and where one waits, by phase. All syncs of a boundary are sent before an answer is taken; then the
-  -- least port is awaited that holds no request and has not answered its sync; where there is none, the held request with the least
-  -- time is served, and that of the least port among equals.
+  -- What it does, a row a phase. All syncs of a boundary are sent before an answer is taken; then the least port is awaited that
+  -- holds no request and has not answered its sync; where there is none, the held request with the least time is served, and that
+  -- of the least port among equals.
 
-  abbrev pub greet_outlook : MachineEnd M F → ℕ → Option PortEnd → HubOutlook (MachineEnd M F) (Decoded F)
-  greet_outlook h p None = HubHalts
-  greet_outlook h p (Some q) = HubActs (after_greet (put_port h p (greeted q)) p (nat_lt (suc p) (length h.ports))) (Some (p, Valid (hello_of q.session)))
+  abbrev pub greets : MachineEnd M F → ℕ → PortEnd → Act M F
+  greets h p q =
+      Sends p (hello_of q.session) (after_greet (put_port h p (greeted q)) p (nat_lt (suc p) (length h.ports)))
 
-  abbrev pub sync_outlook : MachineEnd M F → ℕ → Option PortEnd → HubOutlook (MachineEnd M F) (Decoded F)
-  sync_outlook h p None = HubHalts
-  sync_outlook h p (Some q) = HubActs (after_sync (put_port h p (requested q false (Sync h.tick) 0 h.tick)) p (nat_lt (suc p) (length h.ports))) (Some (p, Valid (request_of q.session false (Sync h.tick))))
+  abbrev pub syncs : MachineEnd M F → ℕ → PortEnd → Act M F
+  syncs h p q =
+      Sends p (request_of q.session false (Sync h.tick))
+      (after_sync (put_port h p (requested q false (Sync h.tick) 0 h.tick)) p (nat_lt (suc p) (length h.ports)))
 
-  abbrev pub access_outlook : MachineEnd M F → M → ℕ → Access → Option PortEnd → Bool → HubOutlook (MachineEnd M F) (Decoded F)
-  access_outlook h m p a None posted = HubHalts
-  access_outlook h m p a (Some q) true = HubActs (finished (record (put_port h p (requested q true (access_body q.session.common h.tick a) a.size h.tick)) { master = m }) p a (plain a (record { code = 0; value = 0 }))) (Some (p, Valid (request_of q.session true (access_body q.session.common h.tick a))))
-  access_outlook h m p a (Some q) false = HubActs (record (put_port h p (with_wait (requested q false (access_body q.session.common h.tick a) a.size h.tick))) { master = m; phase = AnswerFrom p a }) (Some (p, Valid (request_of q.session false (access_body q.session.common h.tick a))))
+  -- An access that the master has issued, which is m now. The Boolean says that it is posted.
+  abbrev pub accesses : MachineEnd M F → M → ℕ → Access → Bool → PortEnd → Act M F
+  accesses h m p a true q =
+      Sends p (request_of q.session true (access_body q.session.common h.tick a))
+      (finished
+      (record (put_port h p (requested q true (access_body q.session.common h.tick a) a.size h.tick)) { master = m })
+      p a (plain a (record { code = 0; value = 0 })))
+  accesses h m p a false q =
+      Sends p (request_of q.session false (access_body q.session.common h.tick a))
+      (record (put_port h p (with_wait (requested q false (access_body q.session.common h.tick a) a.size h.tick))) {
+        master = m;
+        phase = AnswerFrom p a;
+      })
 
-  abbrev pub unit_outlook : MachineEnd M F → M → Option Bus → HubOutlook (MachineEnd M F) (Decoded F)
-  unit_outlook h m None = HubActs (unit_done h m) None
-  unit_outlook h m (Some b) = access_outlook h m b.port b.access (slice_get h.ports b.port) b.access.posted
+  abbrev pub works : MachineEnd M F → M → Option Bus → Act M F
+  works h m None = Works (unit_done h m)
+  works h m (Some b) = at_port (slice_get h.ports b.port) (accesses h m b.port b.access b.access.posted)
 
-  abbrev pub run_outlook : MachineEnd M F → Bool → List PortEnd → HubOutlook (MachineEnd M F) (Decoded F)
-  run_outlook h true [] = HubActs (after_boundary h) None
-  run_outlook h true (q ∷ qs) = sync_outlook h 0 (Some q)
-  run_outlook h false ports = unit_outlook h (k.issue h.master).0 (k.issue h.master).1
+  abbrev pub runs : MachineEnd M F → Bool → List PortEnd → Act M F
+  runs h true [] = Marks (after_boundary h)
+  runs h true (q ∷ qs) = syncs h 0 q
+  runs h false ports = works h (k.issue h.master).0 (k.issue h.master).1
 
   abbrev pub after_service : MachineEnd M F → ℕ → PortEnd → Service M → MachineEnd M F
   after_service h p q r = record h { master = r.master; calls = h.calls ++ r.calls; ports = set h.ports p q }
 
-  abbrev pub serve_packet : MachineEnd M F → ℕ → PortEnd → Packet → Bool → HubOutlook (MachineEnd M F) (Decoded F)
-  serve_packet h p q m true = HubActs (after_service h p (record q { held = None }) (serve_body k h.master h.tick p m.body)) None
-  serve_packet h p q m false = HubActs (after_service h p (record q { held = None; session = other_answered q.session }) (serve_body k h.master h.tick p m.body)) (Some (p, Valid (answer_of (ticket_of m) (serve_body k h.master h.tick p m.body).answer)))
+  -- The Boolean says that the request is posted.
+  abbrev pub serves : MachineEnd M F → ℕ → PortEnd → Packet → Bool → Act M F
+  serves h p q m true =
+      Serves p (after_service h p (record q { held = None }) (serve_body k h.master h.tick p m.body))
+  serves h p q m false =
+      Sends p (answer_of (ticket_of m) (serve_body k h.master h.tick p m.body).answer)
+      (after_service h p (record q { held = None; session = other_answered q.session }) (serve_body k h.master h.tick p m.body))
 
-  abbrev pub serve_held : MachineEnd M F → ℕ → PortEnd → Option Packet → HubOutlook (MachineEnd M F) (Decoded F)
-  serve_held h p q None = HubHalts
-  serve_held h p q (Some m) = serve_packet h p q m (is_posted q.session.common m)
+  abbrev pub serves_held : MachineEnd M F → ℕ → PortEnd → Option Packet → Act M F
+  serves_held h p q None = Lost
+  serves_held h p q (Some m) = serves h p q m (is_posted q.session.common m)
 
-  abbrev pub serve_port : MachineEnd M F → ℕ → Option PortEnd → HubOutlook (MachineEnd M F) (Decoded F)
-  serve_port h p None = HubHalts
-  serve_port h p (Some q) = serve_held h p q q.held
+  abbrev pub serves_least : MachineEnd M F → Option (ℕ × ℕ) → Act M F
+  serves_least h None = Lost
+  serves_least h (Some r) = at_port (slice_get h.ports r.0) (λ (q : PortEnd). serves_held h r.0 q q.held)
 
-  abbrev pub serve_outlook : MachineEnd M F → Option (ℕ × ℕ) → HubOutlook (MachineEnd M F) (Decoded F)
-  serve_outlook h None = HubHalts
-  serve_outlook h (Some r) = serve_port h r.0 (slice_get h.ports r.0)
+  abbrev pub gathers : MachineEnd M F → Option ℕ → Act M F
+  gathers h (Some p) = Awaits p
+  gathers h None = serves_least h (least (map held_time h.ports))
 
-  abbrev pub gather_outlook : MachineEnd M F → Option ℕ → HubOutlook (MachineEnd M F) (Decoded F)
-  gather_outlook h (Some p) = HubWaits p
-  gather_outlook h None = serve_outlook h (least (map held_time h.ports))
+  abbrev pub acts_in : MachineEnd M F → Phase → Act M F
+  acts_in h (Greet p) = at_port (slice_get h.ports p) (greets h p)
+  acts_in h (Meet p) = Awaits p
+  acts_in h Run = runs h (is_due h) h.ports
+  acts_in h (AnswerFrom p a) = Awaits p
+  acts_in h (SyncTo p) = at_port (slice_get h.ports p) (syncs h p)
+  acts_in h Gather = gathers h (first_true (map is_unknown h.ports))
+  acts_in h Done = Rests
 
-  abbrev pub phase_outlook : MachineEnd M F → Phase → HubOutlook (MachineEnd M F) (Decoded F)
-  phase_outlook h (Greet p) = greet_outlook h p (slice_get h.ports p)
-  phase_outlook h (Meet p) = HubWaits p
-  phase_outlook h Run = run_outlook h (is_due h) h.ports
-  phase_outlook h (AnswerFrom p a) = HubWaits p
-  phase_outlook h (SyncTo p) = sync_outlook h p (slice_get h.ports p)
-  phase_outlook h Gather = gather_outlook h (first_true (map is_unknown h.ports))
-  phase_outlook h Done = HubHalts
+  abbrev pub acts_unless : MachineEnd M F → Option (ℕ × EndFault F) → Act M F
+  acts_unless h (Some f) = Fails f.0 f.1
+  acts_unless h None = acts_in h h.phase
 
-  abbrev pub machine_looks : MachineEnd M F → Option (ℕ × EndFault F) → HubOutlook (MachineEnd M F) (Decoded F)
-  machine_looks h (Some f) = HubHalts
-  machine_looks h None = phase_outlook h h.phase
+  abbrev pub machine_acts : MachineEnd M F → Act M F
+  machine_acts h = acts_unless h h.fault
 
   abbrev pub machine_outlook : MachineEnd M F → HubOutlook (MachineEnd M F) (Decoded F)
-  machine_outlook h = machine_looks h h.fault
+  machine_outlook h = outlook_of (machine_acts h)
 
   -- A packet that is taken. A request that arose after the latest request sent on its port is a fault.
 

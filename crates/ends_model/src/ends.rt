@@ -24,3 +24,32 @@ pub enum Phase {
     Gather,
     Done,
 }
+
+/// What a machine end did in a turn.
+#[derive(Clone, Copy, PartialEq, Eq, Debug)]
+pub enum Turn {
+    /// A unit of the master's own.
+    Unit,
+    /// A packet was sent.
+    Sent { port: u32 },
+    /// A packet was taken.
+    Took { port: u32 },
+    /// A held request that is posted was served.
+    Served { port: u32 },
+    /// A boundary without ports.
+    Marked,
+    /// A packet of this port is awaited, and none is whole.
+    NotYet { port: u32 },
+    Done,
+}
+
+/// What a device end did in a turn.
+#[derive(Clone, Copy, PartialEq, Eq, Debug)]
+pub enum DeviceTurn {
+    /// Its hello was sent.
+    Greeted,
+    /// A packet was taken.
+    Took,
+    /// No packet is whole.
+    NotYet,
+}

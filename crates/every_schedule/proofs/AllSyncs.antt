@@ -13,7 +13,7 @@ use Rattle.cosim_model.specs.Packets.{Decoded, Codec}
 use Rattle.ends_model.specs.DeviceTurn.{DeviceEnd}
 use Rattle.ends_model.specs.declared.ends.Phase.{Phase}
 use Rattle.cosim_model.specs.declared.values.Plan.{Plan}
-use Rattle.ends_model.specs.MachineTurn.{MachineEnd, with_wait, sync_outlook}
+use Rattle.ends_model.specs.MachineTurn.{MachineEnd, with_wait}
 use Rattle.ends_model.specs.declared.ends.Phase.TheVariants.{SyncTo, Gather}
 use Rattle.every_schedule.specs.Wires.{Wire}
 use Rattle.ends_model.specs.World.{ends}
@@ -23,6 +23,7 @@ use Rattle.every_schedule.proofs.AtPort.{IsFine}
 use Rattle.every_schedule.proofs.Syncs.{state, enter, leave, synced_hub, half, restarted, sync_at}
 use Rattle.every_schedule.proofs.Leads.{between}
 use Rattle.every_schedule.proofs.Moves.{still_there, arrive, Leads, leads_on, frame}
+use Rattle.every_schedule.proofs.Outlooks.{sync_outlook}
 
 pub nat_lt_self : (n : ℕ) → nat_lt n n ≡ false
 nat_lt_self n = le-ltb n n (omega arith)

@@ -13,7 +13,7 @@ use Rattle.cosim_model.specs.Parts.{DeviceModel, MasterModel, IsDevice, IsMaster
 use Rattle.cosim_model.specs.Packets.{Decoded, Codec, IsCodec}
 use Rattle.ends_model.specs.DeviceTurn.{DeviceEnd}
 use Rattle.cosim_model.specs.declared.values.Plan.{Plan}
-use Rattle.ends_model.specs.MachineTurn.{MachineEnd, machine_looks, phase_outlook}
+use Rattle.ends_model.specs.MachineTurn.{MachineEnd}
 use Rattle.ends_model.specs.declared.ends.Phase.TheVariants.{Done}
 use Rattle.ends_model.specs.World.{Side}
 use Rattle.ends_model.specs.World.{ends, machine_start, Fit, world}
@@ -25,6 +25,7 @@ use Rattle.every_schedule.proofs.Greeting.{leaves_of}
 use Rattle.every_schedule.proofs.Headline.{hub_start, leaf_starts, run_moves, run_rests, run_ends, last, ran, mirrored, unread_none}
 use Rattle.every_schedule.proofs.Schedules.{schedules, no_fault, final_is_end, final_delivered}
 use Rattle.every_schedule.proofs.EndsSending.{each_ends}
+use Rattle.every_schedule.proofs.Outlooks.{machine_looks, phase_outlook}
 
 module _ {M S F : Type 0} (k : MasterModel M) (d : DeviceModel S) (codec : Codec F) (plan : Plan) (laws : IsDevice d) (laws' : IsMaster k) (coded : IsCodec codec) (m : M) (xs : List (Side × S)) (fit : Fit k d plan m xs) where
   abbrev e : Ends (MachineEnd M F) (DeviceEnd S F) (Decoded F)

@@ -18,7 +18,7 @@ use Rattle.cosim_model.specs.Sessions.{Session, take_packet}
 use Rattle.cosim_model.specs.declared.session.Event.TheVariants.{SyncDone, Told}
 use Rattle.ends_model.specs.DeviceTurn.{DeviceEnd, settled, is_answered, want_body, told, level_of, closed}
 use Rattle.cosim_model.specs.declared.values.Plan.{Plan}
-use Rattle.ends_model.specs.MachineTurn.{MachineEnd, PortEnd, first_true, is_unknown, is_clear, if_over, gather_outlook, machine_hears_at, machine_took, time_of}
+use Rattle.ends_model.specs.MachineTurn.{MachineEnd, PortEnd, first_true, is_unknown, is_clear, if_over, machine_hears_at, machine_took, time_of}
 use Rattle.ends_model.specs.declared.ends.Phase.TheVariants.{Gather}
 use Rattle.every_schedule.specs.Wires.{Wire, unsettled, behind, gathered, gathered_by, take_request, take_synced}
 use Rattle.ends_model.specs.World.{ends}
@@ -30,6 +30,7 @@ use Rattle.every_schedule.proofs.Takes.{machine_s, own, packet, hears_sync_answe
 use Rattle.every_schedule.proofs.Accesses.{asking_leaf, asking_packet, port_with, post_with, settles_asks, heard_want, time_is}
 use Rattle.every_schedule.proofs.Leads.{hub_takes_it}
 use Rattle.every_schedule.proofs.Moves.{arrive, Leads, frame, here, takes_request, takes_told}
+use Rattle.every_schedule.proofs.Outlooks.{gather_outlook}
 
 true_false : true ≡ false → ⊥
 true_false e = cc

@@ -20,7 +20,7 @@ use Rattle.cosim_model.specs.declared.session.Event.TheVariants.{Met}
 use Rattle.ends_model.specs.DeviceTurn.{DeviceEnd, settled, device_takes, device_took}
 use Rattle.ends_model.specs.declared.ends.Phase.{Phase}
 use Rattle.cosim_model.specs.declared.values.Plan.{Plan}
-use Rattle.ends_model.specs.MachineTurn.{MachineEnd, PortEnd, greeted, waits_at, after_greet, to_meet, greet_outlook, machine_hears_at, machine_took}
+use Rattle.ends_model.specs.MachineTurn.{MachineEnd, PortEnd, greeted, waits_at, after_greet, to_meet, machine_hears_at, machine_took}
 use Rattle.ends_model.specs.declared.ends.Phase.TheVariants.{Greet, Meet, Run}
 use Rattle.ends_model.specs.World.{Side}
 use Rattle.every_schedule.specs.Wires.{Wire, unsettled, device_session, met_wire}
@@ -30,6 +30,7 @@ use Rattle.every_schedule.proofs.Base.{common_here}
 use Rattle.every_schedule.proofs.Lists.{get_mid, set_mid, map_both}
 use Rattle.every_schedule.proofs.Syncs.{state}
 use Rattle.every_schedule.proofs.Moves.{Leads, leads_on, frame}
+use Rattle.every_schedule.proofs.Outlooks.{greet_outlook}
 
 abbrev pub hello_m : Packet
 hello_m = hello_of (fresh_session Machine all_caps no_caps)

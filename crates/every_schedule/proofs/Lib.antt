@@ -1,4 +1,5 @@
 pub mod Base
+pub mod Outlooks
 pub mod Settles
 pub mod Takes
 pub mod Lists

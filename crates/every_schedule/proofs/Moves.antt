@@ -19,10 +19,11 @@ use Rattle.cosim_model.specs.declared.session.Event.TheVariants.{Asked, Told, An
 use Rattle.ends_model.specs.DeviceTurn.{DeviceEnd, device_takes, device_looks}
 use Rattle.ends_model.specs.declared.ends.Phase.{Phase}
 use Rattle.cosim_model.specs.declared.values.Plan.{Plan}
-use Rattle.ends_model.specs.MachineTurn.{MachineEnd, PortEnd, access_body, answer_from, requested, with_wait, is_due, run_outlook, unit_outlook, access_outlook, machine_hears_at, machine_took, hold_request, time_of}
+use Rattle.ends_model.specs.MachineTurn.{MachineEnd, PortEnd, access_body, answer_from, requested, with_wait, is_due, machine_hears_at, machine_took, hold_request, time_of}
 use Rattle.ends_model.specs.declared.ends.Phase.TheVariants.{Run, AnswerFrom}
 use Rattle.ends_model.specs.World.{ends}
 use Rattle.every_schedule.proofs.Leads.{LeadsBy, IsFew, leads_by, stay, arrives, hub_sends, hub_takes_it, leaf_moves}
+use Rattle.every_schedule.proofs.Outlooks.{run_outlook, unit_outlook, access_outlook}
 
 module _ {M S F : Type 0} (k : MasterModel M) (d : DeviceModel S) (codec : Codec F) (plan : Plan) where
   abbrev H : Type 0

@@ -18,7 +18,7 @@ use Rattle.cosim_model.specs.Packets.{Decoded, Codec}
 use Rattle.ends_model.specs.DeviceTurn.{DeviceEnd}
 use Rattle.ends_model.specs.declared.ends.Phase.{Phase}
 use Rattle.cosim_model.specs.declared.values.Plan.{Plan}
-use Rattle.ends_model.specs.MachineTurn.{MachineEnd, is_clear, is_last_boundary, is_boundary_due, run_outlook}
+use Rattle.ends_model.specs.MachineTurn.{MachineEnd, is_clear, is_last_boundary, is_boundary_due}
 use Rattle.ends_model.specs.declared.ends.Phase.TheVariants.{Gather, Run, Done}
 use Rattle.every_schedule.specs.Wires.{Wire, gathered, sync_sent, wired}
 use Rattle.cosim_model.specs.Direct.Moment.{Boundary}
@@ -35,6 +35,7 @@ use Rattle.cosim_model.specs.Packets.Body.{Sync}
 use Rattle.every_schedule.proofs.Takes.{packet}
 use Rattle.every_schedule.proofs.Spelt.{HasTail, one_more, sync_fits, number_fits}
 use Rattle.every_schedule.proofs.Moves.{Leads, leads_on, frame}
+use Rattle.every_schedule.proofs.Outlooks.{run_outlook}
 
 true_false : true ≡ false → ⊥
 true_false e = cc

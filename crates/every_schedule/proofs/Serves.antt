@@ -21,7 +21,7 @@ use Rattle.cosim_model.specs.Sessions.{next_number, ticket_of, answer_of, is_pos
 use Rattle.ends_model.specs.declared.ends.OpenSync.{OpenSync}
 use Rattle.ends_model.specs.DeviceTurn.{DeviceEnd, settled, want_body, told, level_of, bare_reply, then_settled, device_takes, device_took, reply_from, answer_fields, request_fields}
 use Rattle.cosim_model.specs.declared.values.Plan.{Plan}
-use Rattle.ends_model.specs.MachineTurn.{MachineEnd, PortEnd, first_true, is_unknown, gather_outlook, least, held_time, serve_outlook, serve_port, serve_packet, after_service, serve_body, Service}
+use Rattle.ends_model.specs.MachineTurn.{MachineEnd, PortEnd, first_true, is_unknown, least, held_time, after_service, serve_body, Service}
 use Rattle.ends_model.specs.declared.ends.Phase.TheVariants.{Gather}
 use Rattle.every_schedule.specs.Wires.{Wire, unsettled, sync_ticket, fed_wire, reply_packets}
 use Rattle.ends_model.specs.Traffic.{reply_body}
@@ -33,6 +33,7 @@ use Rattle.every_schedule.proofs.PacketFacts.{IsClearWant, same_service, same_re
 use Rattle.every_schedule.specs.Counts.{if_posted}
 use Rattle.every_schedule.proofs.Leads.{LeadsBy, recount, hub_sends, hub_alone}
 use Rattle.every_schedule.proofs.Moves.{arrive, leads_on, Leads, frame, here, device_moves}
+use Rattle.every_schedule.proofs.Outlooks.{gather_outlook, serve_outlook, serve_port, serve_packet}
 
 true_false : true ≡ false → ⊥
 true_false e = cc

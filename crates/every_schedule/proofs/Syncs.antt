@@ -17,7 +17,7 @@ use Rattle.cosim_model.specs.Sessions.{request_of, next_number}
 use Rattle.ends_model.specs.DeviceTurn.{DeviceEnd, device_takes, device_took, device_looks, then_settled, settled, is_answered}
 use Rattle.ends_model.specs.declared.ends.Phase.{Phase}
 use Rattle.cosim_model.specs.declared.values.Plan.{Plan}
-use Rattle.ends_model.specs.MachineTurn.{MachineEnd, PortEnd, requested, with_wait, after_sync, sync_outlook, put_port}
+use Rattle.ends_model.specs.MachineTurn.{MachineEnd, PortEnd, requested, with_wait, after_sync, put_port}
 use Rattle.ends_model.specs.declared.ends.Phase.TheVariants.{SyncTo, Gather}
 use Rattle.every_schedule.specs.Wires.{Wire, unsettled, behind, sync_sent, sync_ticket}
 use Rattle.ends_model.specs.World.{ends}
@@ -29,6 +29,7 @@ use Rattle.every_schedule.proofs.AtPort.{IsFine, IsQuiet, IsAsking, kind_of}
 use Rattle.every_schedule.proofs.Leads.{IsFew, HasFew, hub_sends, leaf_moves}
 use Rattle.every_schedule.proofs.Short.{want_short}
 use Rattle.every_schedule.proofs.Moves.{arrive, leads_on, Leads, frame, here}
+use Rattle.every_schedule.proofs.Outlooks.{sync_outlook}
 
 module _ {S : Type 0} (F : Type 0) (d : DeviceModel S) (s : S) (lines : Bool) (offer needs : Caps) (next : ℕ) (oo : Option OwnRequest) (last : ℕ) (own : Option Want) (calls : List Call) where
   pub device_syncs : (id t : ℕ) → last ≤ t → device_takes d (device F s lines (device_s offer needs next oo None None last) None own calls) (Valid (packet id 0 (Sync t))) ≡ then_settled d (device F (d.advance s t) lines (device_s offer needs next oo (Some (sync_ticket id)) None t) (Some (record { ticket = sync_ticket id; time = t })) own calls, [])

@@ -18,7 +18,7 @@ use Rattle.cosim_model.specs.Parts.{DeviceModel, MasterModel, IsDevice, IsMaster
 use Rattle.cosim_model.specs.Packets.{Packet, Decoded, Codec}
 use Rattle.ends_model.specs.DeviceTurn.{DeviceEnd, is_answered}
 use Rattle.cosim_model.specs.declared.values.Plan.{Plan}
-use Rattle.ends_model.specs.MachineTurn.{MachineEnd, is_boundary_due, run_outlook, unit_outlook}
+use Rattle.ends_model.specs.MachineTurn.{MachineEnd, is_boundary_due}
 use Rattle.ends_model.specs.declared.ends.Phase.TheVariants.{Run}
 use Rattle.ends_model.specs.World.{Side}
 use Rattle.every_schedule.specs.Wires.{Wire, unread, behind, wired, access_wire}
@@ -38,6 +38,7 @@ use Rattle.ends_model.specs.MachineTurn.{access_fields}
 use Rattle.every_schedule.specs.Wires.{access_answer, access_packet, answer_body}
 use Rattle.every_schedule.proofs.Spelt.{IsSpelt, one_more, request_fits, answer_fits, want_fits, number_fits}
 use Rattle.every_schedule.proofs.Moves.{Leads, frame}
+use Rattle.every_schedule.proofs.Outlooks.{run_outlook, unit_outlook}
 
 true_false : true ≡ false → ⊥
 true_false e = cc

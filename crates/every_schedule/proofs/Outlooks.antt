@@ -1,0 +1,47 @@
+-- What a machine end does, as outlooks by what it looks at: the steps by which the proofs compute a turn.
+use Rattle.std.specs.Prelude.{ℕ, Bool, List, Option}
+use Rattle.process_network.specs.PacketStar.{HubOutlook}
+use Rattle.cosim_model.specs.declared.values.Access.{Access}
+use Rattle.cosim_model.specs.declared.values.Bus.{Bus}
+use Rattle.cosim_model.specs.declared.session.EndFault.{EndFault}
+use Rattle.cosim_model.specs.Parts.{MasterModel}
+use Rattle.cosim_model.specs.Packets.{Packet, Decoded}
+use Rattle.ends_model.specs.declared.ends.Phase.{Phase}
+use Rattle.ends_model.specs.MachineTurn.{MachineEnd, PortEnd, outlook_of, at_port, greets, syncs, accesses, works, runs, serves, serves_held, serves_least, gathers, acts_in, acts_unless}
+
+module _ {M F : Type 0} (k : MasterModel M) where
+  abbrev pub greet_outlook : MachineEnd M F → ℕ → Option PortEnd → HubOutlook (MachineEnd M F) (Decoded F)
+  greet_outlook h p o = outlook_of (at_port o (greets k h p))
+
+  abbrev pub sync_outlook : MachineEnd M F → ℕ → Option PortEnd → HubOutlook (MachineEnd M F) (Decoded F)
+  sync_outlook h p o = outlook_of (at_port o (syncs k h p))
+
+  abbrev pub access_outlook : MachineEnd M F → M → ℕ → Access → Option PortEnd → Bool → HubOutlook (MachineEnd M F) (Decoded F)
+  access_outlook h m p a o posted = outlook_of (at_port o (accesses k h m p a posted))
+
+  abbrev pub unit_outlook : MachineEnd M F → M → Option Bus → HubOutlook (MachineEnd M F) (Decoded F)
+  unit_outlook h m b = outlook_of (works k h m b)
+
+  abbrev pub run_outlook : MachineEnd M F → Bool → List PortEnd → HubOutlook (MachineEnd M F) (Decoded F)
+  run_outlook h due ports = outlook_of (runs k h due ports)
+
+  abbrev pub serve_packet : MachineEnd M F → ℕ → PortEnd → Packet → Bool → HubOutlook (MachineEnd M F) (Decoded F)
+  serve_packet h p q m posted = outlook_of (serves k h p q m posted)
+
+  abbrev pub serve_held : MachineEnd M F → ℕ → PortEnd → Option Packet → HubOutlook (MachineEnd M F) (Decoded F)
+  serve_held h p q o = outlook_of (serves_held k h p q o)
+
+  abbrev pub serve_port : MachineEnd M F → ℕ → Option PortEnd → HubOutlook (MachineEnd M F) (Decoded F)
+  serve_port h p o = outlook_of (at_port o (λ (q : PortEnd). serves_held k h p q q.held))
+
+  abbrev pub serve_outlook : MachineEnd M F → Option (ℕ × ℕ) → HubOutlook (MachineEnd M F) (Decoded F)
+  serve_outlook h r = outlook_of (serves_least k h r)
+
+  abbrev pub gather_outlook : MachineEnd M F → Option ℕ → HubOutlook (MachineEnd M F) (Decoded F)
+  gather_outlook h p = outlook_of (gathers k h p)
+
+  abbrev pub phase_outlook : MachineEnd M F → Phase → HubOutlook (MachineEnd M F) (Decoded F)
+  phase_outlook h phase = outlook_of (acts_in k h phase)
+
+  abbrev pub machine_looks : MachineEnd M F → Option (ℕ × EndFault F) → HubOutlook (MachineEnd M F) (Decoded F)
+  machine_looks h fault = outlook_of (acts_unless k h fault)
