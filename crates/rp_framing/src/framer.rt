@@ -60,11 +60,13 @@ impl Framer {
         ensures any_cut { OnOk result ((b : List ℕ) → GrowsBy bytes.now b self.old self.new) }
         ensures err { OnErr result (self.new ≡ self.old) }
     {
-        if self.kept.is_some() {
-            return Ok(());
+        match self.kept {
+            Some(_) => Ok(()),
+            None => {
+                self.make_way(bytes.len());
+                self.bytes.push_all(bytes)
+            }
         }
-        self.make_way(bytes.len());
-        self.bytes.push_all(bytes)
     }
 
     /// Appends bytes of the stream in the room that there is. After a fault of `next` it drops them. It takes no memory.
