@@ -1,4 +1,5 @@
 pub mod CallLists
 pub mod Enables
+pub mod Lanes
 pub mod Levels
 pub mod SmallParts

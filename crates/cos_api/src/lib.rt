@@ -9,6 +9,7 @@ mod calls;
 mod device;
 mod levels;
 mod master;
+mod service;
 #[cfg(test)]
 mod tests;
 
@@ -18,3 +19,4 @@ pub use cosim_model::{Access, Answer, Bus, Call, Caps, Closing, HartView, Reply,
 pub use device::Device;
 pub use levels::with_level;
 pub use master::Master;
+pub use service::serve;

@@ -1,3 +1,4 @@
+pub mod CallNumbers
 pub mod Calls
 pub mod Counts
 pub mod Links

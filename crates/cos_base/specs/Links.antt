@@ -7,17 +7,13 @@ use Rattle.cos_base.specs.declared.links.Got.TheVariants as got
 use Rattle.cos_base.specs.declared.links.Put.{Put}
 use Rattle.cos_base.specs.declared.links.Put.TheVariants as put
 use Rattle.cos_base.specs.Counts.{Rises}
-use Rattle.cos_base.specs.Prefixes.{IsPrefix}
+pub use Rattle.byte_streams.specs.Prefixes.{IsPrefix, Grows}
 
 -- What a link tells: the bytes sent on it, those received, and all that it gives for any bytes sent.
 pub record Wire : Type 0 where
   pub sent : List ℕ
   pub received : List ℕ
   pub said : List ℕ → List ℕ
-
--- more bytes sent or heard, more bytes said
-abbrev pub Grows : (List ℕ → List ℕ) → Type 0
-Grows said = (x y : List ℕ) → IsPrefix (said x) (said (x ++ y))
 
 -- What always holds of a wire: nothing is received that isn't said for the bytes sent, and what is said grows with them.
 pub record IsWire (w : Wire) : Type 0 where

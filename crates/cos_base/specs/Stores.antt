@@ -1,5 +1,5 @@
--- What an object that keeps files tells: a map from names to bytes. And what its calls do to it.
-use Rattle.std.specs.Prelude.{◌≡◌, ℕ, List, IfSome, IsSomeAnd, IsErrOf, MatchResult}
+-- What an object that keeps files tells: a map from names to bytes, and the names that it was asked for, in order. And what its calls do to them.
+use Rattle.std.specs.Prelude.{◌≡◌, ℕ, List, [], ◌∷◌, ◌++◌, IfSome, IsSomeAnd, IsErrOf, MatchResult}
 use Rattle.std.specs.declared.option.Option.{Option}
 use Rattle.std.specs.declared.option.Option.TheVariants.{Some, None}
 use Rattle.std.specs.declared.result.Result.{Result}
@@ -50,3 +50,11 @@ Writes (Some m) new name bytes result =
 -- sound files fail to read a name only where it has no file
 abbrev pub ReadsSoundly : {T : Type 0} → Option Store → List ℕ → Result T FileFault → Type 0
 ReadsSoundly old name result = IsErrOf result file.Failed → IsSomeAnd old (λ m. m name ≡ None)
+
+-- Where it tells, the name stands behind those that it was asked for before, after a failure too; want of memory adds none.
+abbrev pub Asks : {T : Type 0} → Option Store → List (List ℕ) → List (List ℕ) → List ℕ → Result T FileFault → Type 0
+Asks None before now name result = Unit {0}
+Asks (Some m) before now name result =
+    MatchResult result
+    (λ _. now ≡ before ++ name ∷ [])
+    (λ e. elim e [ file.Failed ↦ now ≡ before ++ name ∷ [] | file.NoMemory ↦ now ≡ before ])

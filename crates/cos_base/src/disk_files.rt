@@ -24,7 +24,9 @@ pub struct DiskFiles<'a, R: fs::Files> {
 
 impl<'a, R: fs::Files> DiskFiles<'a, R> {
     /// It takes no memory.
-    pub fn make(alloc: Global, rt: &'a R) -> DiskFiles<'a, R> {
+    pub fn make(alloc: Global, rt: &'a R) -> DiskFiles<'a, R>
+        ensures { ⟦<DiskFiles<'a, R> as Files>⟧.count result ≡ 0 }
+    {
         DiskFiles {
             rt,
             alloc,
@@ -81,9 +83,11 @@ fn add_piece(bytes: &mut Octets, piece: &[u8]) -> Result<(), FileFault>
 }
 
 impl<R: fs::Files> Files for DiskFiles<'_, R> {
-    ghost use Rattle.std.specs.Prelude.{None};
+    ghost use Rattle.std.specs.Prelude.{[], None};
 
     ghost told = { λ f. None };
+
+    ghost asked = { λ f. [] };
 
     ghost sound = { λ f. ⊥ };
 

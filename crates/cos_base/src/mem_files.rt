@@ -1,5 +1,5 @@
 // Files in memory.
-ghost use Rattle.std.specs.Prelude.{◌≡◌, ◌+◌, ◌≤◌, None, Some, OnErr, OnOk, IfOk, string_bytes, vec_len, vec_capacity};
+ghost use Rattle.std.specs.Prelude.{◌≡◌, ◌+◌, ◌≤◌, ◌++◌, ◌↔◌, [], ◌∷◌, None, Some, OnErr, OnOk, IfOk, map, option_map, string_bytes, vec_len, vec_capacity};
 ghost use Rattle.cos_base.specs.Calls.{FailsNoMore};
 
 use crate::calls::Calls;
@@ -18,23 +18,28 @@ pub struct MemFile {
 pub struct MemFiles {
     alloc: Global,
     files: Vec<MemFile>,
+    asked: Vec<String>,
     calls: Calls,
 }
 
 impl MemFiles {
     ghost use Rattle.cos_base.specs.Stores.{IsWith, IsSet};
     ghost use Rattle.cos_base.specs.MemStores.{is_named, store_of};
+    ghost use Rattle.cos_base.specs.CallNumbers.{IsUncalled, files_calls};
     ghost use Rattle.std.specs.List.{position};
 
     /// No files yet. The calls with the numbers of `failing`, counted from 0, fail. It takes no memory.
     pub fn make(alloc: Global, failing: Numbers) -> MemFiles
         ensures told { ⟦<MemFiles as Files>⟧.told result ≡ Some (λ name. None) }
+        ensures asked { ⟦<MemFiles as Files>⟧.asked result ≡ [] }
         ensures count { ⟦<MemFiles as Files>⟧.count result ≡ 0 }
-        ensures sound { FailsNoMore 0 failing → ⟦<MemFiles as Files>⟧.sound result }
+        ensures calls { IsUncalled (files_calls result) failing }
+        ensures sound { ⟦<MemFiles as Files>⟧.sound result ↔ FailsNoMore 0 failing }
     {
         MemFiles {
             alloc,
             files: Vec::new(alloc),
+            asked: Vec::new(alloc),
             calls: Calls::new(failing),
         }
     }
@@ -43,8 +48,10 @@ impl MemFiles {
     pub fn add(&mut self, name: &str, bytes: Octets) -> Result<(), NoMemory>
         ensures ok { OnOk result (IsSet (⟦<MemFiles as Files>⟧.told self.old) name.now bytes.bytes (⟦<MemFiles as Files>⟧.told self.new)) }
         ensures err { OnErr result (⟦<MemFiles as Files>⟧.told self.new ≡ ⟦<MemFiles as Files>⟧.told self.old) }
+        ensures asked { ⟦<MemFiles as Files>⟧.asked self.new ≡ ⟦<MemFiles as Files>⟧.asked self.old }
         ensures count { ⟦<MemFiles as Files>⟧.count self.new ≡ ⟦<MemFiles as Files>⟧.count self.old }
-        ensures sound { ⟦<MemFiles as Files>⟧.sound self.old → ⟦<MemFiles as Files>⟧.sound self.new }
+        ensures calls { files_calls self.new ≡ files_calls self.old }
+        ensures sound { ⟦<MemFiles as Files>⟧.sound self.new ↔ ⟦<MemFiles as Files>⟧.sound self.old }
     {
         let name = String::from_str(self.alloc, name)?;
         self.files.reserve(1)?;
@@ -61,10 +68,38 @@ impl MemFiles {
             .position(|file| file.name.as_str() == name)
     }
 
+    /// The bytes of the file of a name, where there is one.
+    fn copy_of(&self, name: &str) -> Result<Option<Octets>, NoMemory>
+        ensures { IfOk result (λ copy. option_map (λ o. o.bytes) copy ≡ store_of self.now.files.items name.now) }
+    {
+        match self.place(name) {
+            Some(at) => match self.files[at].bytes.copy(self.alloc) {
+                Ok(copy) => Ok(Some(copy)),
+                Err(NoMemory) => Err(NoMemory),
+            },
+            None => Ok(None),
+        }
+    }
+
+    /// Keeps a name that was asked for. It is no call.
+    fn ask(&mut self, name: &str) -> Result<(), NoMemory>
+        ensures ok { OnOk result (map string_bytes self.new.asked.items ≡ map string_bytes self.old.asked.items ++ name.now ∷ []) }
+        ensures err { OnErr result (map string_bytes self.new.asked.items ≡ map string_bytes self.old.asked.items) }
+        ensures files { self.new.files ≡ self.old.files }
+        ensures calls { self.new.calls ≡ self.old.calls }
+    {
+        let copy = String::from_str(self.alloc, name)?;
+        match self.asked.push(copy) {
+            Ok(()) => Ok(()),
+            Err(_) => Err(NoMemory),
+        }
+    }
+
     /// Sets one file, in the room that there is.
     fn set(&mut self, file: MemFile)
         requires { vec_len self.old.files + 1 ≤ vec_capacity self.old.files }
         ensures files { IsWith (store_of self.old.files.items) (string_bytes file.name) file.bytes.bytes (store_of self.new.files.items) }
+        ensures asked { self.new.asked ≡ self.old.asked }
         ensures calls { self.new.calls ≡ self.old.calls }
     {
         match self.place(file.name.as_str()) {
@@ -89,11 +124,15 @@ fn make_file(alloc: Global, name: &str, bytes: &[u8]) -> Result<MemFile, NoMemor
 }
 
 impl Files for MemFiles {
-    ghost use Rattle.std.specs.Prelude.{refl, Some};
+    ghost use Rattle.std.specs.Prelude.{◌≡◌, refl, None, Some, IsErrOf, map, string_bytes};
+    ghost use Rattle.cos_base.specs.Stores.{FileCounts, Reads, Writes, Asks, ReadsSoundly};
     ghost use Rattle.cos_base.specs.Calls.{FailsNoMore};
+    ghost use Rattle.cos_base.specs.CallNumbers.{FileCalls, files_calls};
     ghost use Rattle.cos_base.specs.MemStores.{store_of};
 
     ghost told = { λ f. Some (store_of f.files.items) };
+
+    ghost asked = { λ f. map string_bytes f.asked.items };
 
     ghost sound = { λ f. FailsNoMore f.calls.next f.calls.failing };
 
@@ -105,28 +144,46 @@ impl Files for MemFiles {
         self.calls.faults
     }
 
-    fn read(&mut self, name: &str) -> Result<Octets, FileFault> {
+    /// It fails exactly where its call is listed or the name has no file.
+    fn read(&mut self, name: &str) -> Result<Octets, FileFault>
+        ensures counts { FileCounts self.old.calls.faults self.new.calls.faults result }
+        ensures tells { Reads (Some (store_of self.old.files.items)) (Some (store_of self.new.files.items)) name.now result }
+        ensures asks { Asks (Some (store_of self.old.files.items)) (map string_bytes self.old.asked.items) (map string_bytes self.new.asked.items) name.now result }
+        ensures calls { FileCalls (files_calls self.old) (files_calls self.new) (store_of self.old.files.items name.now ≡ None) result }
+        ensures is_sound { FailsNoMore self.old.calls.next self.old.calls.failing → FailsNoMore self.new.calls.next self.new.calls.failing × ReadsSoundly (Some (store_of self.old.files.items)) name.now result }
+    {
+        let copy = match self.copy_of(name) {
+            Ok(copy) => copy,
+            Err(NoMemory) => return Err(FileFault::NoMemory),
+        };
+        match self.ask(name) {
+            Ok(()) => {}
+            Err(NoMemory) => return Err(FileFault::NoMemory),
+        }
         if self.calls.is_failing() {
             self.calls.fail();
             return Err(FileFault::Failed);
         }
-        let at = match self.place(name) {
-            Some(at) => at,
+        match copy {
+            Some(bytes) => {
+                self.calls.pass();
+                Ok(bytes)
+            }
             None => {
                 self.calls.fail();
-                return Err(FileFault::Failed);
+                Err(FileFault::Failed)
             }
-        };
-        match self.files[at].bytes.copy(self.alloc) {
-            Ok(copy) => {
-                self.calls.pass();
-                Ok(copy)
-            }
-            Err(NoMemory) => Err(FileFault::NoMemory),
         }
     }
 
-    fn write(&mut self, name: &str, bytes: &[u8]) -> Result<(), FileFault> {
+    /// It fails exactly where its call is listed, and then changes no file.
+    fn write(&mut self, name: &str, bytes: &[u8]) -> Result<(), FileFault>
+        ensures counts { FileCounts self.old.calls.faults self.new.calls.faults result }
+        ensures tells { Writes (Some (store_of self.old.files.items)) (Some (store_of self.new.files.items)) name.now bytes.now result }
+        ensures asks { Asks (Some (store_of self.old.files.items)) (map string_bytes self.old.asked.items) (map string_bytes self.new.asked.items) name.now result }
+        ensures calls { FileCalls (files_calls self.old) (files_calls self.new) ⊥ result }
+        ensures is_sound { FailsNoMore self.old.calls.next self.old.calls.failing → FailsNoMore self.new.calls.next self.new.calls.failing × (IsErrOf result FileFault.Failed → ⊥) }
+    {
         let file = match make_file(self.alloc, name, bytes) {
             Ok(file) => file,
             Err(NoMemory) => return Err(FileFault::NoMemory),
@@ -134,6 +191,10 @@ impl Files for MemFiles {
         match self.files.reserve(1) {
             Ok(()) => {}
             Err(_) => return Err(FileFault::NoMemory),
+        }
+        match self.ask(name) {
+            Ok(()) => {}
+            Err(NoMemory) => return Err(FileFault::NoMemory),
         }
         if self.calls.is_failing() {
             self.calls.fail();

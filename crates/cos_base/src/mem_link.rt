@@ -1,7 +1,6 @@
 // A link in memory.
-ghost use Rattle.std.specs.Prelude.{◌≡◌, ◌+◌, ◌-◌, ◌<◌, ◌≤◌, ◌∷◌, [], length, IsSome, IsTrue, min};
+ghost use Rattle.std.specs.Prelude.{◌≡◌, ◌+◌, ◌-◌, ◌<◌, ◌≤◌, ◌↔◌, ◌∷◌, [], length, IsSome, IsTrue, min, take};
 ghost use Rattle.std.specs.Option.{ForSome};
-ghost use Rattle.cos_base.specs.Prefixes.{IsPrefix};
 ghost use Rattle.cos_base.specs.Links.{is_fresh};
 ghost use Rattle.cos_base.specs.Peers.{said_of};
 ghost use Rattle.cos_base.specs.Calls.{FailsNoMore};
@@ -18,11 +17,12 @@ pub struct MemLink<P: Peer> {
     cuts: Numbers,
     cut: usize,
     calls: Calls,
-    ghost within: { ForSome (P.told peer) (λ s. IsPrefix received.bytes (said_of s)) },
+    ghost within: { ForSome (P.told peer) (λ s. take (length received.bytes) (said_of s) ≡ received.bytes) },
 }
 
 impl<P: Peer> MemLink<P> {
     ghost use Rattle.cos_base.specs.MemLinks.{wire_of};
+    ghost use Rattle.cos_base.specs.CallNumbers.{IsUncalled, link_calls};
 
     /// What was sent on it is what the peer heard; nothing was received. Reads give at most as many bytes as `cuts`
     /// says, one size after another; after the last one, and for a size of 0, as many as there are. The calls with the
@@ -32,7 +32,8 @@ impl<P: Peer> MemLink<P> {
         ensures told { ⟦<MemLink<P> as Link>⟧.told result ≡ wire_of (P.told peer) [] }
         ensures fresh { ForSome (P.told peer) (λ s. s.heard ≡ []) → IsTrue (is_fresh (⟦<MemLink<P> as Link>⟧.told result)) }
         ensures count { ⟦<MemLink<P> as Link>⟧.count result ≡ 0 }
-        ensures sound { FailsNoMore 0 failing → ⟦<MemLink<P> as Link>⟧.sound result }
+        ensures calls { IsUncalled (link_calls result) failing }
+        ensures sound { ⟦<MemLink<P> as Link>⟧.sound result ↔ FailsNoMore 0 failing }
     {
         MemLink {
             peer,
@@ -69,6 +70,8 @@ impl<P: Peer> MemLink<P> {
 impl<P: Peer> Link for MemLink<P> {
     ghost use Rattle.std.specs.Prelude.{◌≡◌, ⊤};
     ghost use Rattle.cos_base.specs.Calls.{FailsNoMore};
+    ghost use Rattle.cos_base.specs.CallNumbers.{GotCalls, PutCalls, link_calls};
+    ghost use Rattle.cos_base.specs.Links.{GotCounts, GotBound, GotTold, GotSound, PutCounts, PutBound, PutTold, PutSound};
     ghost use Rattle.cos_base.specs.MemLinks.{wire_of, wire_is};
 
     ghost told = { λ l. wire_of (P.told l.peer) l.received.bytes };
@@ -83,7 +86,15 @@ impl<P: Peer> Link for MemLink<P> {
         self.calls.faults
     }
 
-    fn read(&mut self, into: &mut [u8]) -> Got {
+    /// It fails exactly where its call is listed.
+    fn read(&mut self, into: &mut [u8]) -> Got
+        requires { 0 < length into.old }
+        ensures counts { GotCounts self.old.calls.faults self.new.calls.faults result }
+        ensures bound { GotBound result into.new }
+        ensures tells { GotTold (wire_of (P.told self.old.peer) self.old.received.bytes) (wire_of (P.told self.new.peer) self.new.received.bytes) result into.new }
+        ensures calls { GotCalls (link_calls self.old) (link_calls self.new) result }
+        ensures is_sound { FailsNoMore self.old.calls.next self.old.calls.failing → FailsNoMore self.new.calls.next self.new.calls.failing × GotSound result }
+    {
         let most = self.next_piece(into.len());
         match self.received.reserve(most) {
             Ok(()) => {}
@@ -105,7 +116,15 @@ impl<P: Peer> Link for MemLink<P> {
         Got::Bytes { count }
     }
 
-    fn write(&mut self, from: &[u8]) -> Put {
+    /// It fails exactly where its call is listed.
+    fn write(&mut self, from: &[u8]) -> Put
+        requires { 0 < length from.now }
+        ensures counts { PutCounts self.old.calls.faults self.new.calls.faults result }
+        ensures bound { PutBound result from.now }
+        ensures tells { PutTold (wire_of (P.told self.old.peer) self.old.received.bytes) (wire_of (P.told self.new.peer) self.new.received.bytes) result from.now }
+        ensures calls { PutCalls (link_calls self.old) (link_calls self.new) result }
+        ensures is_sound { FailsNoMore self.old.calls.next self.old.calls.failing → FailsNoMore self.new.calls.next self.new.calls.failing × PutSound result }
+    {
         if self.calls.is_failing() {
             self.calls.fail();
             return Put::Failed;

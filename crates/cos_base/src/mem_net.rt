@@ -1,5 +1,5 @@
 // A network in memory.
-ghost use Rattle.std.specs.Prelude.{◌≡◌, ◌++◌, [], ◌∷◌, All, OnErr, OnOk, IfOk, IfErr, map, string_bytes, IsTrue, IsErrOf};
+ghost use Rattle.std.specs.Prelude.{◌≡◌, ◌++◌, ◌↔◌, [], ◌∷◌, All, OnErr, OnOk, IfOk, IfErr, map, string_bytes, IsTrue, IsErrOf};
 ghost use Rattle.std.specs.List.{list_all};
 ghost use Rattle.cos_base.specs.Counts.{Counts};
 ghost use Rattle.cos_base.specs.Links.{is_fresh};
@@ -24,13 +24,15 @@ pub struct MemNet<P: Peer> {
 
 impl<P: Peer> MemNet<P> {
     ghost use Rattle.cos_base.specs.MemNets.{AllSound};
+    ghost use Rattle.cos_base.specs.CallNumbers.{IsUncalled, NetCalls, net_calls};
 
     /// Keeps the links that it will hand out. The calls with the numbers of `failing`, counted from 0, fail. It takes no memory.
     pub fn make(alloc: Global, links: Vec<MemLink<P>>, failing: Numbers) -> MemNet<P>
         requires { AllFresh ⟦<MemLink<P> as Link>⟧.told links.items }
         ensures told { ⟦<MemNet<P> as Network>⟧.told result ≡ Some (record { coming = links.items; names = [] }) }
         ensures count { ⟦<MemNet<P> as Network>⟧.count result ≡ 0 }
-        ensures sound { FailsNoMore 0 failing → AllSound links.items → ⟦<MemNet<P> as Network>⟧.sound result }
+        ensures calls { IsUncalled (net_calls result) failing }
+        ensures sound { ⟦<MemNet<P> as Network>⟧.sound result ↔ (FailsNoMore 0 failing × AllSound links.items) }
     {
         MemNet {
             alloc,
@@ -67,7 +69,8 @@ impl<P: Peer> MemNet<P> {
         ensures err { OnErr result (self.new.links.items ≡ self.old.links.items) }
         ensures names { self.new.names ≡ self.old.names }
         ensures count { Counts self.old.calls.faults self.new.calls.faults result }
-        ensures calls { FailsNoMore self.old.calls.next self.old.calls.failing → FailsNoMore self.new.calls.next self.new.calls.failing }
+        ensures calls { NetCalls self.old.calls self.new.calls (self.old.links.items ≡ []) result }
+        ensures unfailing { FailsNoMore self.old.calls.next self.old.calls.failing → FailsNoMore self.new.calls.next self.new.calls.failing }
         ensures sound { AllSound self.old.links.items → AllSound self.new.links.items }
         ensures empty { FailsNoMore self.old.calls.next self.old.calls.failing → IsErrOf result NetFault.Failed → self.old.links.items ≡ [] }
     {
@@ -83,8 +86,11 @@ impl<P: Peer> MemNet<P> {
 impl<P: Peer> Network for MemNet<P> {
     type Link = MemLink<P>;
 
-    ghost use Rattle.std.specs.Prelude.{◌≡◌, map, string_bytes, Some, All};
+    ghost use Rattle.std.specs.Prelude.{◌≡◌, [], ◌∷◌, map, string_bytes, Some, All, IfOk, IfSome, IsErrOf};
     ghost use Rattle.cos_base.specs.Calls.{FailsNoMore};
+    ghost use Rattle.cos_base.specs.CallNumbers.{NetCalls, net_calls};
+    ghost use Rattle.cos_base.specs.Links.{IsFresh};
+    ghost use Rattle.cos_base.specs.Networks.{NetCounts, Hands, Listens, HandsSound};
     ghost use Rattle.cos_base.specs.MemNets.{AllSound};
 
     ghost told = { λ n. Some (record { coming = n.links.items; names = map string_bytes n.names.items }) };
@@ -102,7 +108,13 @@ impl<P: Peer> Network for MemNet<P> {
         self.calls.faults
     }
 
-    fn listen(&mut self, name: &str) -> Result<u32, NetFault> {
+    /// It fails exactly where its call is listed.
+    fn listen(&mut self, name: &str) -> Result<u32, NetFault>
+        ensures counts { NetCounts self.old.calls.faults self.new.calls.faults result }
+        ensures tells { Listens (Some (record { coming = self.old.links.items; names = map string_bytes self.old.names.items })) (Some (record { coming = self.new.links.items; names = map string_bytes self.new.names.items })) (name.now ∷ []) result }
+        ensures calls { NetCalls (net_calls self.old) (net_calls self.new) ⊥ result }
+        ensures is_sound { (FailsNoMore self.old.calls.next self.old.calls.failing × AllSound self.old.links.items) → (FailsNoMore self.new.calls.next self.new.calls.failing × AllSound self.new.links.items) × (IsErrOf result NetFault.Failed → ⊥) }
+    {
         self.add_name(name)?;
         if self.calls.is_failing() {
             self.calls.fail();
@@ -114,12 +126,26 @@ impl<P: Peer> Network for MemNet<P> {
         Ok(number)
     }
 
-    fn accept(&mut self, listener: u32) -> Result<MemLink<P>, NetFault> {
+    /// It fails exactly where its call is listed or no link is left.
+    fn accept(&mut self, listener: u32) -> Result<MemLink<P>, NetFault>
+        ensures counts { NetCounts self.old.calls.faults self.new.calls.faults result }
+        ensures tells { Hands (Some (record { coming = self.old.links.items; names = map string_bytes self.old.names.items })) (Some (record { coming = self.new.links.items; names = map string_bytes self.new.names.items })) [] result }
+        ensures fresh { IfOk result (λ l. IfSome (wire_of (P.told l.peer) l.received.bytes) IsFresh) }
+        ensures calls { NetCalls (net_calls self.old) (net_calls self.new) (self.old.links.items ≡ []) result }
+        ensures is_sound { (FailsNoMore self.old.calls.next self.old.calls.failing × AllSound self.old.links.items) → (FailsNoMore self.new.calls.next self.new.calls.failing × AllSound self.new.links.items) × HandsSound (Some (record { coming = self.old.links.items; names = map string_bytes self.old.names.items })) result }
+    {
         let _listener = listener;
         self.first()
     }
 
-    fn connect(&mut self, name: &str) -> Result<MemLink<P>, NetFault> {
+    /// It fails exactly where its call is listed or no link is left.
+    fn connect(&mut self, name: &str) -> Result<MemLink<P>, NetFault>
+        ensures counts { NetCounts self.old.calls.faults self.new.calls.faults result }
+        ensures tells { Hands (Some (record { coming = self.old.links.items; names = map string_bytes self.old.names.items })) (Some (record { coming = self.new.links.items; names = map string_bytes self.new.names.items })) (name.now ∷ []) result }
+        ensures fresh { IfOk result (λ l. IfSome (wire_of (P.told l.peer) l.received.bytes) IsFresh) }
+        ensures calls { NetCalls (net_calls self.old) (net_calls self.new) (self.old.links.items ≡ []) result }
+        ensures is_sound { (FailsNoMore self.old.calls.next self.old.calls.failing × AllSound self.old.links.items) → (FailsNoMore self.new.calls.next self.new.calls.failing × AllSound self.new.links.items) × HandsSound (Some (record { coming = self.old.links.items; names = map string_bytes self.old.names.items })) result }
+    {
         self.add_name(name)?;
         self.first()
     }

@@ -1,5 +1,5 @@
 // A sink in memory.
-ghost use Rattle.std.specs.Prelude.{◌≡◌, ◌≤◌, [], Some, IfOk, length};
+ghost use Rattle.std.specs.Prelude.{◌≡◌, ◌≤◌, ◌↔◌, [], Some, IfOk, length};
 ghost use Rattle.cos_base.specs.Calls.{FailsNoMore};
 
 use crate::calls::Calls;
@@ -16,12 +16,15 @@ pub struct MemSink {
 }
 
 impl MemSink {
+    ghost use Rattle.cos_base.specs.CallNumbers.{IsUncalled, sink_calls};
+
     /// Takes its room. A put past it is a failure, and so are the calls with these numbers.
     pub fn make(alloc: Global, room: usize, failing: Numbers) -> Result<MemSink, NoMemory>
         ensures told { IfOk result (λ s. ⟦<MemSink as Sink>⟧.told s ≡ Some []) }
         ensures room { IfOk result (λ s. ⟦<MemSink as Sink>⟧.room s ≡ room) }
         ensures count { IfOk result (λ s. ⟦<MemSink as Sink>⟧.count s ≡ 0) }
-        ensures sound { IfOk result (λ s. FailsNoMore 0 failing → ⟦<MemSink as Sink>⟧.sound s) }
+        ensures calls { IfOk result (λ s. IsUncalled (sink_calls s) failing) }
+        ensures sound { IfOk result (λ s. ⟦<MemSink as Sink>⟧.sound s ↔ FailsNoMore 0 failing) }
     {
         let mut bytes = Octets::make(alloc);
         bytes.reserve(room)?;
@@ -41,8 +44,11 @@ impl MemSink {
 }
 
 impl Sink for MemSink {
-    ghost use Rattle.std.specs.Prelude.{refl};
+    ghost use Rattle.std.specs.Prelude.{◌<◌, length, refl};
     ghost use Rattle.cos_base.specs.Calls.{FailsNoMore};
+    ghost use Rattle.cos_base.specs.CallNumbers.{SinkCalls, sink_calls};
+    ghost use Rattle.cos_base.specs.Counts.{Counts};
+    ghost use Rattle.cos_base.specs.Sinks.{Puts, PutsSoundly};
 
     ghost told = { λ s. Some s.bytes.bytes };
 
@@ -58,7 +64,14 @@ impl Sink for MemSink {
         self.calls.faults
     }
 
-    fn put(&mut self, bytes: &[u8]) -> Result<(), Failed> {
+    /// It fails exactly where its call is listed or the piece is longer than the room.
+    fn put(&mut self, bytes: &[u8]) -> Result<(), Failed>
+        ensures counts { Counts self.old.calls.faults self.new.calls.faults result }
+        ensures tells { Puts (Some self.old.bytes.bytes) (Some self.new.bytes.bytes) bytes.now result }
+        ensures calls { SinkCalls (sink_calls self.old) (sink_calls self.new) (self.old.room < length bytes.now) result }
+        ensures is_sound { FailsNoMore self.old.calls.next self.old.calls.failing → FailsNoMore self.new.calls.next self.new.calls.failing
+            × PutsSoundly (Some self.old.bytes.bytes) (Some self.new.bytes.bytes) self.old.room self.new.room bytes.now result }
+    {
         if self.calls.is_failing() || bytes.len() > self.room {
             self.calls.fail();
             return Err(Failed);

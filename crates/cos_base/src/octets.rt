@@ -57,19 +57,19 @@ impl Octets {
         self.room
     }
 
-    /// Appends all. In the room that there is it takes no memory.
+    /// Appends all. In the room that there is it takes no memory; where they take more than that, no room is left.
     pub fn push_all(&mut self, bytes: &[u8]) -> Result<(), NoMemory>
         ensures ok { OnOk result (self.new.bytes ≡ self.old.bytes ++ bytes.now) }
+        ensures spare { OnOk result (self.new.spare ≡ self.old.spare - length bytes.now) }
         ensures err { OnErr result (self.new ≡ self.old) }
-        ensures fits { length bytes.now ≤ self.old.spare →
-            IsOk result × (self.new.spare ≡ self.old.spare - length bytes.now) }
+        ensures fits { length bytes.now ≤ self.old.spare → IsOk result }
     {
         if bytes.len() <= self.room {
             self.push_spare(bytes);
             return Ok(());
         }
         self.items.extend_from_slice(bytes)?;
-        self.room = self.items.capacity() - self.items.len();
+        self.room = 0;
         Ok(())
     }
 

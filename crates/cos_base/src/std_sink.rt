@@ -1,4 +1,6 @@
 // Standard output and standard error.
+ghost use Rattle.std.specs.Prelude.{◌≡◌};
+
 use crate::{Failed, Sink};
 use std::io::Write;
 
@@ -11,7 +13,9 @@ pub struct StdSink<W: Write> {
 
 impl<W: Write> StdSink<W> {
     /// It takes no memory.
-    pub fn make(inner: W) -> StdSink<W> {
+    pub fn make(inner: W) -> StdSink<W>
+        ensures { ⟦<StdSink<W> as Sink>⟧.count result ≡ 0 }
+    {
         StdSink { inner, faults: 0 }
     }
 }

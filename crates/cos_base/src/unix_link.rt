@@ -15,7 +15,9 @@ pub struct UnixLink {
 
 impl UnixLink {
     /// It takes no memory.
-    pub fn make(stream: UnixStream) -> UnixLink {
+    pub fn make(stream: UnixStream) -> UnixLink
+        ensures { ⟦<UnixLink as Link>⟧.count result ≡ 0 }
+    {
         UnixLink { stream, faults: 0 }
     }
 

@@ -32,7 +32,9 @@ pub struct UnixNet<'a, R: Files + Net> {
 
 impl<'a, R: Files + Net> UnixNet<'a, R> {
     /// It takes no memory.
-    pub fn make(alloc: Global, rt: &'a R) -> UnixNet<'a, R> {
+    pub fn make(alloc: Global, rt: &'a R) -> UnixNet<'a, R>
+        ensures { ⟦<UnixNet<'a, R> as Network>⟧.count result ≡ 0 }
+    {
         UnixNet {
             rt,
             alloc,

@@ -2,5 +2,4 @@ mod Entries
 mod Texts
 mod Members
 mod PortReads
-mod Windows
 mod Entering

@@ -50,18 +50,18 @@ pub enum ConfigFault {
     /// Two parts share an address, or a window passes the end of the addresses, where both numbers are its own. Part 0 is the RAM,
     /// part 1 the system block, part 2 + p the window of port p.
     Overlap {
-        a: u32,
-        b: u32,
+        a: u64,
+        b: u64,
     },
     /// Two ports have one line.
     LineTwice {
-        a: u32,
-        b: u32,
+        a: u64,
+        b: u64,
     },
     /// A port lacks a capability that its device needs.
     Needs {
-        port: u32,
-        cap: u32,
+        port: u64,
+        cap: u64,
     },
     /// There was no memory. Nothing is said of the text.
     NoMemory,

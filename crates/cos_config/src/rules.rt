@@ -26,13 +26,12 @@ fn parts_of(alloc: Global, config: &Config) -> Result<Vec<Part>, NoMemory>
 
 /// The first two parts that share an address, or a part that passes the end.
 fn overlapping(all: &[Part]) -> Option<ConfigFault>
-    requires few { length all.now ≤ 18 }
     ensures { result ≡ option_map overlap_fault (overlap_found 0 all.now) }
 {
     let (a, b) = overlap(all)?;
     Some(ConfigFault::Overlap {
-        a: a as u32,
-        b: b as u32,
+        a: a as u64,
+        b: b as u64,
     })
 }
 
@@ -45,14 +44,13 @@ fn port_has_line(port: &PortConfig, line: u32) -> bool
 /// The first port behind port `a` that has its line.
 fn same_line(ports: &[PortConfig], a: usize, line: u32) -> Option<ConfigFault>
     requires here { a < length ports.now }
-    requires few { length ports.now ≤ 16 }
     ensures { result ≡ line_found a line (a + 1) (drop (a + 1) ports.now) }
 {
     for b in a + 1..ports.len() {
         if port_has_line(&ports[b], line) {
             return Some(ConfigFault::LineTwice {
-                a: a as u32,
-                b: b as u32,
+                a: a as u64,
+                b: b as u64,
             });
         }
     }
@@ -61,7 +59,6 @@ fn same_line(ports: &[PortConfig], a: usize, line: u32) -> Option<ConfigFault>
 
 /// The first two ports that have one line.
 fn line_twice(ports: &[PortConfig]) -> Option<ConfigFault>
-    requires few { length ports.now ≤ 16 }
     ensures { result ≡ lines_found 0 ports.now }
 {
     for a in 0..ports.len() {
@@ -75,7 +72,7 @@ fn line_twice(ports: &[PortConfig]) -> Option<ConfigFault>
     None
 }
 
-fn port_lacks(number: u32, port: &PortConfig) -> Option<ConfigFault>
+fn port_lacks(number: u64, port: &PortConfig) -> Option<ConfigFault>
     ensures { result ≡ port_needs number port.now.kind port.now.caps.base port.now.caps.enables }
 {
     match port.kind {
@@ -93,11 +90,10 @@ fn port_lacks(number: u32, port: &PortConfig) -> Option<ConfigFault>
 
 /// The first port that lacks a capability that its device needs.
 fn lacking(ports: &[PortConfig]) -> Option<ConfigFault>
-    requires few { length ports.now ≤ 16 }
     ensures { result ≡ needs_found 0 ports.now }
 {
     for (number, port) in ports.iter().enumerate() {
-        if let Some(fault) = port_lacks(number as u32, port) {
+        if let Some(fault) = port_lacks(number as u64, port) {
             return Some(fault);
         }
     }
@@ -106,7 +102,6 @@ fn lacking(ports: &[PortConfig]) -> Option<ConfigFault>
 
 /// The first of the rules on several ports that a configuration breaks.
 pub fn broken(alloc: Global, config: &Config, sockets: Sockets) -> Option<ConfigFault>
-    requires few { length config.now.ports ≤ 16 }
     ensures { MatchOption result (parts_found sockets config.now ≡ None) (Refuses (parts_found sockets config.now)) }
 {
     let parts = match parts_of(alloc, config) {

@@ -1,5 +1,5 @@
 -- What packets mean, apart from their bytes, and a codec of which only its laws are known.
-use Rattle.std.specs.Prelude.{◌≡◌, ℕ, zero, suc, ◌+◌, ◌*◌, ◌/◌, ◌%◌, ◌^◌, ◌<◌, ◌≤◌, Bool, true, false, not, ◌&&◌, ◌||◌, if◌then◌else◌, nat_eq, List, [], ◌∷◌, ◌++◌, length, get_or, map, All, Option, Some}
+use Rattle.std.specs.Prelude.{◌≡◌, ℕ, zero, suc, ◌+◌, ◌-◌, ◌*◌, ◌/◌, ◌%◌, ◌^◌, ◌<◌, ◌≤◌, Bool, true, false, not, ◌&&◌, ◌||◌, if◌then◌else◌, nat_eq, List, [], ◌∷◌, ◌++◌, length, get_or, map, All, Option, Some}
 use Rattle.byte_streams.specs.Messages.{IsDecided}
 use Rattle.cosim_model.specs.declared.values.Caps.{Caps}
 use Rattle.cosim_model.specs.Values.{bit}
@@ -86,6 +86,10 @@ is_extended f = bit f.attributes 2
 
 abbrev pub code_of : BusFields → ℕ
 code_of f = (f.attributes / 256) % 16
+
+-- the attributes with another response code, which takes bits 8 to 11
+abbrev pub with_code : ℕ → ℕ → ℕ
+with_code attributes code = attributes - 256 * (attributes / 256 % 16) + 256 * code
 
 -- Data byte i is enabled where there are no enables, or enable byte i modulo their number is not 0.
 

@@ -6,7 +6,7 @@ use Rattle.std.specs.declared.result.Result.TheVariants.{Ok, Err}
 use Rattle.std.proofs.Common.{refl, ap, sym, ◌∙◌, subst, append_assoc, drop, length, take, get_or, ◌<◌, ◌≤◌, suc, zero, arith}
 use Rattle.std.proofs.lemmas.List.{take_more, take-append-drop}
 use Rattle.std.specs.Borrow.{Bor}
-use Rattle.end_device.specs.TalkLaws.{prefix-by, prefix-part}
+use Rattle.byte_streams.proofs.Prefixes.{IsPrefix-by, IsPrefix-behind}
 use Rattle.cosim_status.specs.Lines.{texts, IsPut}
 use Rattle.std.proofs.lemmas.List.{append-nil}
 use Rattle.cos_base.specs.Counts.{Rises}
@@ -16,7 +16,7 @@ use Rattle.cos_base.specs.declared.sinks.Failed.{Failed}
 
 pub part-both : (x p q : List ℕ) (c : Option (List ℕ)) → IfSome c (λ now. (part : List ℕ) × IsPrefix part q × (now ≡ (x ++ p) ++ part)) → IfSome c (λ now. (part : List ℕ) × IsPrefix part (p ++ q) × (now ≡ x ++ part))
 part-both x p q None h = tt
-part-both x p q (Some now) (part, fits, is) = (p ++ part, prefix-part p part q fits, is ∙ append_assoc x p part)
+part-both x p q (Some now) (part, fits, is) = (p ++ part, IsPrefix-behind p part q fits, is ∙ append_assoc x p part)
 
 -- all of a text was put
 abbrev pub PutsAll : Option (List ℕ) → Option (List ℕ) → List ℕ → Type 0
@@ -54,7 +54,7 @@ texts-front ps i d small = ap texts (take_more ps i d small) ∙ texts-one-more 
 -- pieces up to one are a prefix of all
 pub texts-prefix : (ps : List (Bor (List ℕ))) (i : ℕ) → IsPrefix (texts (take i ps)) (texts ps)
 texts-prefix ps i =
-    prefix-by (texts (take i ps)) (texts (drop i ps)) (texts ps)
+    IsPrefix-by (texts (take i ps)) (texts (drop i ps)) (texts ps)
     (ap texts (sym (take-append-drop i ps)) ∙ texts-append (take i ps) (drop i ps))
 
 -- a failure at a piece is a failure of all

@@ -99,15 +99,9 @@ fn put_config<E: Sink>(err: &mut E, fault: &ConfigFault)
             put_key(err, "cosim: config: Word ", *table, key.as_str())
         }
         ConfigFault::Range { table, key, value } => put_range(err, *table, key.as_str(), value),
-        ConfigFault::Overlap { a, b } => {
-            put_two(err, "cosim: config: Overlap ", *a as u64, *b as u64)
-        }
-        ConfigFault::LineTwice { a, b } => {
-            put_two(err, "cosim: config: LineTwice ", *a as u64, *b as u64)
-        }
-        ConfigFault::Needs { port, cap } => {
-            put_two(err, "cosim: config: Needs ", *port as u64, *cap as u64)
-        }
+        ConfigFault::Overlap { a, b } => put_two(err, "cosim: config: Overlap ", *a, *b),
+        ConfigFault::LineTwice { a, b } => put_two(err, "cosim: config: LineTwice ", *a, *b),
+        ConfigFault::Needs { port, cap } => put_two(err, "cosim: config: Needs ", *port, *cap),
         ConfigFault::NoMemory => put_all(err, &["cosim: config: NoMemory\n"]),
     }
 }

@@ -1,5 +1,4 @@
 pub mod Lists
-pub mod Bytes
 pub mod Firsts
 pub mod Units
 pub mod Serving

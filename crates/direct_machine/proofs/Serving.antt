@@ -16,7 +16,7 @@ use Rattle.cosim_model.specs.Direct.{Direct, Moment, serve_device, serve_want, s
 use Rattle.cosim_model.specs.Direct.Moment.{Called}
 use Rattle.cosim_model.specs.Order.{least}
 use Rattle.direct_machine.specs.declared.run.Run.{Run}
-use Rattle.direct_machine.specs.Lanes.{HasSize}
+use Rattle.cos_api.specs.Lanes.{HasSize}
 use Rattle.direct_machine.specs.Wants.{wanted_at, first_port}
 use Rattle.direct_machine.specs.Runs.{at, IsReady, HasServed, Serves, ServesFirst}
 use Rattle.cos_base.specs.declared.no_memory.NoMemory.{NoMemory}

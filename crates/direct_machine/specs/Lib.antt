@@ -1,4 +1,3 @@
-pub mod Lanes
 pub mod Wants
 pub mod Runs
 pub mod Orders

@@ -7,7 +7,6 @@ mod machine;
 pub mod outcome;
 mod parts;
 mod run;
-mod service;
 #[cfg(test)]
 mod tests;
 mod wants;

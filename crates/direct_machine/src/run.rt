@@ -1,9 +1,8 @@
 // A machine at work: its parts, the calls so far, and the tick.
 ghost use Rattle.std.specs.Prelude.{◌≡◌, ◌≤◌, All, map};
 
-use crate::service::serve;
 use crate::wants::first_wanting;
-use cos_api::{Bus, Call, Calls, Device, Master, plain};
+use cos_api::{Bus, Call, Calls, Device, Master, plain, serve};
 use cos_base::NoMemory;
 
 /// In which order the wants of a boundary are served.

@@ -7,7 +7,7 @@ use Rattle.std.specs.declared.result.Result.{Result}
 use Rattle.std.specs.declared.result.Result.TheVariants.{Ok, Err}
 use Rattle.cos_base.specs.Links.{Grows, Wire, IsWire, IsFresh, GotTold}
 use Rattle.cos_base.specs.declared.links.Got.TheVariants as got
-use Rattle.cos_base.specs.Prefixes.{IsPrefix, IsPrefix-trans, IsPrefix-length, IsPrefix-rest}
+use Rattle.cos_base.specs.Prefixes.{IsPrefix, IsPrefix-front, IsPrefix-trans, IsPrefix-length, IsPrefix-rest}
 use Rattle.end_device.specs.declared.fault.EndFault.{EndFault}
 use Rattle.end_device.specs.declared.fault.EndFault.TheVariants as fault
 use Rattle.end_device.specs.declared.sending.SendFault.{SendFault}
@@ -18,7 +18,8 @@ use Rattle.end_device.specs.Turns.{Core, fresh_core, turn_on, kept_turn, sent_fi
 use Rattle.end_device.specs.Ends.{End, fresh, counting, turn_of, after_turn, Turns, IsWithinRun, HasRun}
 use Rattle.end_device.specs.Sending.{Sends}
 use Rattle.end_device.specs.Talk.{talk, ends, core_ends, kept_ends, rest_ends, TalkEnds, ByTalk, IsByTalk}
-use Rattle.end_device.specs.TalkLaws.{prefix-part, within-talk, talk-fixed, talk-stuck, talk-grows}
+use Rattle.byte_streams.proofs.Prefixes.{IsPrefix-behind}
+use Rattle.byte_streams.proofs.Talks.{within-talk, talk-fixed, talk-stuck, talk-grows}
 use Rattle.end_device.specs.Serving.{Waits, WaitsOver, IsServed, EndsThere, Leaves, Serves}
 use Rattle.end_device.specs.Going.{IsGoing, Going, FaultLeaves, AtEnd, Pulls}
 use Rattle.end_device.proofs.TurnLaws.{out-grows, run-more, run-still}
@@ -48,7 +49,7 @@ going-fresh offer (Some w) f = (
     same = refl;
     read = ap length f.received;
     run = subst (λ r. HasRun offer r w.sent (fresh offer)) (sym f.received) (subst (λ s. HasRun offer [] s (fresh offer)) (sym f.sent) (run-fresh offer));
-    in_time = (zero, subst (λ r. IsPrefix r (talk w.said (out_device offer) zero)) (sym f.received) refl);
+    in_time = (zero, subst (λ r. IsPrefix r (talk w.said (out_device offer) zero)) (sym f.received) (IsPrefix-front [] (w.said [])));
   },
 )
 
@@ -72,7 +73,7 @@ part-of : (offer : Caps) (n : Wire) (bytes : List ℕ) (after : Option Wire) →
 part-of offer n bytes None whole some = tt
 part-of offer n bytes (Some m) whole (part, p, is) =
     subst (λ v. IsPrefix v.sent (out_device offer v.received)) (sym is)
-    (IsPrefix-trans (n.sent ++ part) (n.sent ++ bytes) (out_device offer n.received) (prefix-part n.sent part bytes p) whole)
+    (IsPrefix-trans (n.sent ++ part) (n.sent ++ bytes) (out_device offer n.received) (IsPrefix-behind n.sent part bytes p) whole)
 
 -- a part of what a turn sends was sent
 pub going-part : (offer : Caps) (w : Option Wire) (count : ℕ) (e : End) (now after : Option Wire) (bytes : List ℕ) (x : SendFault) → bytes ≡ (turn_of e).sends → Sends now after bytes (Err x) → Going offer w count e now → OnlyPart offer w after

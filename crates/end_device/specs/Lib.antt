@@ -6,5 +6,4 @@ pub mod Sending
 pub mod Serving
 pub mod Spelling
 pub mod Talk
-pub mod TalkLaws
 pub mod Turns

@@ -1,9 +1,10 @@
 -- How a device end ends over received bytes, and how its talk with a link ends.
-use Rattle.std.specs.Prelude.{ℕ, zero, suc, ◌≡◌, ◌≤◌, Bool, true, false, List, [], ◌∷◌, length, drop}
+use Rattle.std.specs.Prelude.{ℕ, ◌≡◌, ◌≤◌, Bool, true, false, List, [], ◌∷◌, length, drop}
 use Rattle.std.specs.declared.option.Option.{Option}
 use Rattle.std.specs.declared.option.Option.TheVariants.{Some, None}
 use Rattle.std.specs.declared.result.Result.{Result}
 use Rattle.std.specs.declared.result.Result.TheVariants.{Ok, Err}
+pub use Rattle.byte_streams.specs.Talks.{talk, IsTalk}
 use Rattle.cos_base.specs.Links.{Wire}
 use Rattle.end_device.specs.declared.fault.EndFault.{EndFault}
 use Rattle.end_device.specs.declared.fault.EndFault.TheVariants as fault
@@ -27,15 +28,6 @@ core_ends c received = kept_ends c.kept c.met c.taken (drop c.taken received)
 -- How a fresh device end ends over received bytes if no more come, after every turn that it can take.
 abbrev pub ends : Caps → List ℕ → Result Unit EndFault
 ends offer received = core_ends (every_turn received (fresh_core offer)).core received
-
--- What a link has given at last which gives this for any sent bytes, to an end that sends this for any received bytes.
-abbrev pub talk : (List ℕ → List ℕ) → (List ℕ → List ℕ) → ℕ → List ℕ
-talk said out zero = said []
-talk said out (suc k) = said (out (talk said out k))
-
--- Talk goes no further than these bytes.
-abbrev pub IsTalk : (List ℕ → List ℕ) → (List ℕ → List ℕ) → List ℕ → Type 0
-IsTalk said out x = (k : ℕ) × (talk said out k ≡ x) × (talk said out (suc k) ≡ x)
 
 -- Talk of a device end ends so.
 abbrev pub TalkEnds : (List ℕ → List ℕ) → Caps → Result Unit EndFault → Type 0

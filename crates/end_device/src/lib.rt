@@ -22,4 +22,4 @@ pub use plain::Front;
 pub use reading::answers_what_it_reads;
 pub use rp_control::Caps;
 pub use sending::{SendFault, send};
-pub use serving::{one_talk, serve};
+pub use serving::serve;

@@ -1,9 +1,9 @@
 // A device end over a link.
-ghost use Rattle.std.specs.Prelude.{◌≡◌, ◌+◌, ◌<◌, ◌≤◌, length, IfOk, OnOk, IfErr, IfSome, Option, None, List, ℕ};
+ghost use Rattle.std.specs.Prelude.{◌≡◌, ◌+◌, ◌<◌, ◌≤◌, length, IfOk, OnOk, IfErr, IfSome, Option, None, ℕ};
 ghost use Rattle.cos_base.specs.Links.{Wire, IsFresh};
 ghost use Rattle.cosim_model.specs.declared.values.Caps.{Caps};
 ghost use Rattle.end_device.specs.Ends.{fresh};
-ghost use Rattle.end_device.specs.Talk.{IsTalk, IsByTalk};
+ghost use Rattle.end_device.specs.Talk.{IsByTalk};
 ghost use Rattle.end_device.specs.Serving.{Serves, ServeCounts, KeepsFault, NotLink, Waits};
 ghost use Rattle.end_device.specs.Going.{Going, Settles, Pulls, SomeCame, Progress};
 
@@ -141,8 +141,3 @@ pub fn serve<L: Link>(alloc: Global, end: &mut DeviceEnd, link: &mut L) -> Resul
         }
     }
 }
-
-/// Talk ends in one list, so its end is one answer.
-pub fn one_talk()
-    ensures { (said out : List ℕ → List ℕ) (x y : List ℕ) → IsTalk said out x → IsTalk said out y → x ≡ y }
-{}

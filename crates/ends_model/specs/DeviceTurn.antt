@@ -12,6 +12,7 @@ use Rattle.cosim_model.specs.declared.values.Want.TheVariants.{Fetch, Store, Lin
 use Rattle.cosim_model.specs.declared.values.Call.TheVariants as call
 use Rattle.cosim_model.specs.Parts.{DeviceModel}
 use Rattle.cosim_model.specs.Packets.{BusFields, Body, Packet, Decoded, code_of, enabled, enables_of, attributes_of}
+pub use Rattle.cosim_model.specs.Packets.{with_code}
 use Rattle.cosim_model.specs.Packets.Body.{Read, Write, Interrupt, Sync}
 use Rattle.cosim_model.specs.Packets.Decoded.{Valid, Malformed}
 use Rattle.cosim_model.specs.declared.session.SessionFault.{SessionFault}
@@ -77,9 +78,6 @@ reply_from _ _ = bare_reply 0
 
 -- Answers to bus requests repeat the request's fields, with the code in bits 8 to 11 of the attributes and no enables. A refused read
 -- has as many zeros as it asked for, or none above 4,096.
-
-abbrev pub with_code : ℕ → ℕ → ℕ
-with_code attributes code = (attributes - 256 * ((attributes / 256) % 16)) + 256 * code
 
 abbrev pub answer_fields : BusFields → ℕ → ℕ → List ℕ → BusFields
 answer_fields f code len payload = record { time = f.time; attributes = with_code f.attributes code; addr = f.addr; len = len; width = f.width; stream_width = f.stream_width; master = f.master; payload = payload; enables = [] }

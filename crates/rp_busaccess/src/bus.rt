@@ -32,8 +32,8 @@ pub struct BusAccess {
 impl BusAccess {
     ghost use Rattle.std.specs.Prelude.{List, length, OnErr, IsOk, ◌++◌, ◌-◌, true};
     ghost use Rattle.cosim_model.specs.Values.{bit};
-    ghost use Rattle.cosim_model.specs.Packets.{BusFields, code_of, is_enabled, is_extended as has_extended};
-    ghost use Rattle.rp_busaccess.specs.Bits.{fields_of, recoded};
+    ghost use Rattle.cosim_model.specs.Packets.{BusFields, code_of, is_enabled, is_extended as has_extended, with_code as recoded};
+    ghost use Rattle.rp_busaccess.specs.Bits.{fields_of};
     ghost use Rattle.rp_busaccess.specs.declared.fault.BusFault.TheVariants.{NoMemory as WantOfMemory};
 
     /// Whether a body is the canonical one of what it means, or why [`BusAccess::read`] refuses it. It takes no memory.
@@ -86,7 +86,7 @@ impl BusAccess {
     }
 
     /// The same with another response code. It takes no memory.
-    #[tactic(auto, using(crate::specs::Bits::code_recoded))]
+    #[tactic(auto, using(crate::specs::Bits::code_with_code))]
     pub fn with_code(mut self, code: u8) -> BusAccess
         requires { code < 16 }
         ensures same { result ≡ record self { attributes = recoded self.attributes code } }

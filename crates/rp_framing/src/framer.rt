@@ -1,4 +1,4 @@
-ghost use Rattle.std.specs.Prelude.{◌≡◌, ◌+◌, ◌*◌, ◌≤◌, ◌++◌, ℕ, List, [], None, false, length, drop, min, OnOk, OnErr, IfErr};
+ghost use Rattle.std.specs.Prelude.{◌≡◌, ◌+◌, ◌*◌, ◌≤◌, ◌++◌, ℕ, List, [], None, false, IsOk, IsSome, length, drop, min, OnOk, OnErr, IfErr};
 
 use crate::fault::{FrameFault, Truncated};
 use crate::front::{behind, front_of, is_whole};
@@ -55,20 +55,24 @@ impl Framer {
 
     /// Appends bytes of the stream. After a fault of `next` it drops them.
     pub fn feed(&mut self, bytes: &[u8]) -> Result<(), NoMemory>
+        ensures kept { IsSome self.old.kept → IsOk result × (self.new ≡ self.old) }
         ensures ok { OnOk result (Feeds bytes.now self.old self.new) }
         ensures any_cut { OnOk result ((b : List ℕ) → GrowsBy bytes.now b self.old self.new) }
         ensures err { OnErr result (self.new ≡ self.old) }
     {
-        if self.kept.is_some() {
-            return Ok(());
+        match self.kept {
+            Some(_) => Ok(()),
+            None => {
+                self.make_way(bytes.len());
+                self.bytes.push_all(bytes)
+            }
         }
-        self.make_way(bytes.len());
-        self.bytes.push_all(bytes)
     }
 
     /// Appends bytes of the stream in the room that there is. After a fault of `next` it drops them. It takes no memory.
     pub fn feed_spare(&mut self, bytes: &[u8])
         requires { length bytes.now ≤ self.old.room }
+        ensures kept { IsSome self.old.kept → self.new ≡ self.old }
         ensures feeds { Feeds bytes.now self.old self.new }
         ensures any_cut { (b : List ℕ) → GrowsBy bytes.now b self.old self.new }
     {
@@ -145,6 +149,20 @@ impl Framer {
             }
             Err(ReadFault::NoMemory) => Err(FrameFault::NoMemory),
         }
+    }
+
+    /// How many bytes were taken, up to 18,446,744,073,709,551,615. It takes no memory.
+    pub fn taken(&self) -> u64
+        ensures { result ≡ self.now.taken }
+    {
+        self.taken
+    }
+
+    /// How many bytes are held of which no packet was made yet. It takes no memory.
+    pub fn held(&self) -> usize
+        ensures { result ≡ length self.now.held }
+    {
+        self.bytes.len() - self.begin
     }
 
     /// Whether `next` has something to answer: a packet or a fault. It takes no memory.

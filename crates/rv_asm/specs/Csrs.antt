@@ -1,10 +1,23 @@
 -- The control and status registers that have names, with their numbers.
 use Rattle.std.specs.Prelude.{ℕ, ◌==◌, List, [], ◌∷◌, Option, Some, None, cond, codes}
 use Rattle.std.specs.Str.{bytes_eq}
+use Rattle.rv_traps.specs.Registers.{mstatus, misa, mie, mtvec, mscratch, mepc, mcause, mtval, mip, mvendorid, marchid, mimpid, mhartid}
 
 abbrev pub csrs : List (ℕ × List ℕ)
 csrs =
-    (0x300, codes "mstatus") ∷ (0x301, codes "misa") ∷ (0x304, codes "mie") ∷ (0x305, codes "mtvec") ∷ (0x340, codes "mscratch") ∷ (0x341, codes "mepc") ∷ (0x342, codes "mcause") ∷ (0x343, codes "mtval") ∷ (0x344, codes "mip") ∷ (0xf11, codes "mvendorid") ∷ (0xf12, codes "marchid") ∷ (0xf13, codes "mimpid") ∷ (0xf14, codes "mhartid") ∷ []
+    (mstatus, codes "mstatus") ∷
+    (misa, codes "misa") ∷
+    (mie, codes "mie") ∷
+    (mtvec, codes "mtvec") ∷
+    (mscratch, codes "mscratch") ∷
+    (mepc, codes "mepc") ∷
+    (mcause, codes "mcause") ∷
+    (mtval, codes "mtval") ∷
+    (mip, codes "mip") ∷
+    (mvendorid, codes "mvendorid") ∷
+    (marchid, codes "marchid") ∷
+    (mimpid, codes "mimpid") ∷
+    (mhartid, codes "mhartid") ∷ []
 
 -- the number of the first register of a list with this name
 abbrev pub number_among : List (ℕ × List ℕ) → List ℕ → Option ℕ

@@ -1,6 +1,7 @@
 pub mod Fields
 pub mod Operands
 pub mod Names
+pub mod Manual
 pub mod Rows
 pub mod Named
 pub mod Coding

@@ -3,10 +3,16 @@
 ghost use Rattle.std.specs.Prelude.{◌≡◌, ◌<◌, length, Option, Some, MatchOption};
 ghost use Rattle.rv_table.specs.declared.table.TheConstants.{TABLE};
 ghost use Rattle.rv_table.specs.Coding.{IsWithin, number_of, operands};
+ghost use Rattle.rv_table.specs.Manual.{manual};
 ghost use Rattle.rv_table.specs.Operands.{format_of};
 ghost use Rattle.rv_table.specs.Rows.{row_at, Matches, NoneIn};
 
 use crate::{Instr, decode, encode};
+
+/// The table is the manual's.
+pub fn table_is_the_manuals()
+    ensures { TABLE.rows ≡ manual }
+{}
 
 /// The row of an instruction has the format of its operands.
 pub fn format_is_of_row(instr: Instr)

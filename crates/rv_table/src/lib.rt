@@ -20,7 +20,9 @@ mod tests;
 mod words;
 
 pub use instr::Instr;
-pub use laws::{decode_of_encode, encode_of_decode, format_is_of_row, rows_are_apart};
+pub use laws::{
+    decode_of_encode, encode_of_decode, format_is_of_row, rows_are_apart, table_is_the_manuals,
+};
 pub use names::text;
 pub use operands::Operands;
 pub use row::{Format, Name, Row, Rows};

@@ -1,7 +1,6 @@
 -- The control registers of a hart in machine mode: their table, and what a read and a write do by it.
 -- Source: the RISC-V privileged architecture, "Machine-Level CSRs", as far as this machine has it.
 use Rattle.std.specs.Prelude.{◌≡◌, ℕ, ◌+◌, Bool, true, false, List, [], ◌∷◌, Option, Some, None, if◌then◌else◌, nat_eq, bit_and, unwrap_or, map}
-use Rattle.rv_traps.specs.declared.TheConstants.{MSTATUS, MISA, MIE, MTVEC, MSCRATCH, MEPC, MCAUSE, MTVAL, MIP, MVENDORID, MARCHID, MIMPID, MHARTID}
 
 -- how a register is kept: its value is stored, is the set of pending interrupts, or can't be written
 pub data Kind : Type 0 where
@@ -19,22 +18,62 @@ pub record Register : Type 0 where
 abbrev pub register : ℕ → ℕ → ℕ → Kind → Register
 register n r w k = record { number = n; at_reset = r; writable = w; kind = k }
 
+-- The numbers, as the manual has them.
+abbrev pub mstatus : ℕ
+mstatus = 0x300
+
+abbrev pub misa : ℕ
+misa = 0x301
+
+abbrev pub mie : ℕ
+mie = 0x304
+
+abbrev pub mtvec : ℕ
+mtvec = 0x305
+
+abbrev pub mscratch : ℕ
+mscratch = 0x340
+
+abbrev pub mepc : ℕ
+mepc = 0x341
+
+abbrev pub mcause : ℕ
+mcause = 0x342
+
+abbrev pub mtval : ℕ
+mtval = 0x343
+
+abbrev pub mip : ℕ
+mip = 0x344
+
+abbrev pub mvendorid : ℕ
+mvendorid = 0xf11
+
+abbrev pub marchid : ℕ
+marchid = 0xf12
+
+abbrev pub mimpid : ℕ
+mimpid = 0xf13
+
+abbrev pub mhartid : ℕ
+mhartid = 0xf14
+
 -- number, value at reset, writable bits, kind
 abbrev pub registers : List Register
 registers =
-    register MSTATUS 0x1800 0x88 Stored ∷
-    register MISA 0x40000100 0 Stored ∷
-    register MIE 0 0x880 Stored ∷
-    register MTVEC 0 0xfffffffd Stored ∷
-    register MSCRATCH 0 0xffffffff Stored ∷
-    register MEPC 0 0xfffffffc Stored ∷
-    register MCAUSE 0 0xffffffff Stored ∷
-    register MTVAL 0 0xffffffff Stored ∷
-    register MIP 0 0 Pending ∷
-    register MVENDORID 0 0 ReadOnly ∷
-    register MARCHID 0 0 ReadOnly ∷
-    register MIMPID 0 0 ReadOnly ∷
-    register MHARTID 0 0 ReadOnly ∷ []
+    register mstatus 0x1800 0x88 Stored ∷
+    register misa 0x40000100 0 Stored ∷
+    register mie 0 0x880 Stored ∷
+    register mtvec 0 0xfffffffd Stored ∷
+    register mscratch 0 0xffffffff Stored ∷
+    register mepc 0 0xfffffffc Stored ∷
+    register mcause 0 0xffffffff Stored ∷
+    register mtval 0 0xffffffff Stored ∷
+    register mip 0 0 Pending ∷
+    register mvendorid 0 0 ReadOnly ∷
+    register marchid 0 0 ReadOnly ∷
+    register mimpid 0 0 ReadOnly ∷
+    register mhartid 0 0 ReadOnly ∷ []
 
 -- the values of the registers at reset, in the order of the table: so the state of a hart's registers is seen
 abbrev pub reset_values : List ℕ

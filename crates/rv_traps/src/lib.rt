@@ -8,6 +8,9 @@ ghost use Rattle.std.specs.Prelude.{◌≡◌, ◌+◌, ◌*◌, ◌^◌, ◌<�
 ghost use Rattle.rv_traps.specs.Registers.{reset_values, read_of, is_writable as is_writable_lem, written, AreHeld};
 ghost use Rattle.rv_traps.specs.Traps.{trapped, handler, returned, return_to, interrupt_of};
 
+mod laws;
+
+pub use laws::numbers_are_the_manuals;
 use std::marker::Model;
 
 /// Number of mstatus: whether interrupts are taken, and were before a trap.

@@ -1,13 +1,9 @@
-use Rattle.std.proofs.Common.{refl, sym, ap, ◌∙◌}
-use Rattle.std.specs.declared.option.Option.TheVariants.{Some}
-use Rattle.cos_base.proofs.Stored.{read-at, read-none}
+use Rattle.std.proofs.Common.{◌≡◌, sym, ◌∙◌}
+use Rattle.cos_base.proofs.CallLaws.{fails-listed}
+use Rattle.std.specs.declared.option.Option.TheVariants.{None}
+use Rattle.cos_base.specs.MemStores.{store_of}
 use Rattle.cos_base.proofs.mem_files.MemFilesFiles.read.Goals as goal
 
-pub returns-in-None-clause-is_sound : goal.returns-in-None-clause-is_sound
-returns-in-None-clause-is_sound c = λ sound. (c.fail-in-None.ensures.sound sound, λ failed. read-none c.args.name.now c.args.self.now.files.items (sym c.in-None.ensures))
-
-pub returns-in-Ok-clause-tells : goal.returns-in-Ok-clause-tells
-returns-in-Ok-clause-tells c = (
-  refl,
-  read-at c.args.name.now c.args.self.now.files.items _ c.index.result.now (sym c.in-Some.ensures) ∙ ap (λ bytes. Some bytes) (ap (λ f. f.bytes.bytes) (sym c.index.ensures) ∙ sym c.in-Ok.ensures.bytes),
-)
+pub returns-then-is_failing-clause-calls : goal.returns-then-is_failing-clause-calls
+returns-then-is_failing-clause-calls c =
+    fails-listed _ _ _ (store_of c.args.self.now.files.items c.args.name.now ≡ None) c.in-Ok-ask.ensures.calls (sym c.is_failing.ensures.listed ∙ c.if-is_failing.true) c.fail.ensures.next c.fail.ensures.failing

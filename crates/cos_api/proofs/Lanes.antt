@@ -6,7 +6,7 @@ use Rattle.std.proofs.Math.Nat.{mod-eq_of_lt}
 use Rattle.cosim_model.specs.Values.{bits_of, padded, no_bytes}
 use Rattle.cosim_model.specs.Packets.{is_enabled, count_from}
 use Rattle.cos_api.specs.Enables.{enabled_by}
-use Rattle.direct_machine.specs.Lanes.{bit_bytes}
+use Rattle.cos_api.specs.Lanes.{bit_bytes}
 
 -- so many bytes at the front of as many zeros
 filled : (bs : List ℕ) (n m : ℕ) → length bs ≡ n → n ≤ m → bs ++ drop n (replicate m 0) ≡ take m (bs ++ replicate m 0)

@@ -2,9 +2,9 @@
 ghost use Rattle.std.specs.Prelude.{◌≡◌, ◌<◌, ◌≤◌, IfOk, length};
 ghost use Rattle.cosim_model.specs.Parts.{served};
 ghost use Rattle.cosim_model.specs.Values.{bits_of, padded, no_bytes};
-ghost use Rattle.direct_machine.specs.Lanes.{bit_bytes, HasSize};
+ghost use Rattle.cos_api.specs.Lanes.{bit_bytes, HasSize};
 
-use cos_api::{Master, Reply, Want};
+use crate::{Master, Reply, Want};
 use cos_base::NoMemory;
 
 /// The highest interrupt line.
@@ -18,7 +18,7 @@ fn zeros() -> [u8; 64]
 }
 
 /// One byte for each bit of a mask, the lowest first: 1 where it is set.
-fn put_bits(mask: u64, out: &mut [u8])
+fn write_enables(mask: u64, out: &mut [u8])
     ensures { out.new ≡ bit_bytes mask (length out.old) }
 {
     let mut left = mask;
@@ -47,11 +47,11 @@ fn store<M: Master>(master: &mut M, addr: u64, bytes: &[u8], mask: u64) -> Resul
 {
     let mut enables = zeros();
     let enables = &mut enables[..bytes.len()];
-    put_bits(mask, enables);
+    write_enables(mask, enables);
     master.write(addr, bytes, enables)
 }
 
-/// Serves a want.
+/// Serves a want: a fetch and a store are done, and a line below 32 is set; a line above is dropped.
 pub fn serve<M: Master>(master: &mut M, want: Want) -> Result<Reply, NoMemory>
     requires { HasSize want }
     ensures { IfOk result (λ reply. served M.model master.old want ≡ (master.new, reply)) }
@@ -68,19 +68,19 @@ pub fn serve<M: Master>(master: &mut M, want: Want) -> Result<Reply, NoMemory>
             mask,
         } => {
             let code = store(master, addr, &bytes[..usize::from(size)], mask)?;
-            Ok(silent(code))
+            Ok(bare_reply(code))
         }
         Want::Line { line, level } => {
             if line <= LAST_LINE {
                 master.line(line, level);
             }
-            Ok(silent(0))
+            Ok(bare_reply(0))
         }
     }
 }
 
 /// A reply without bytes.
-fn silent(code: u8) -> Reply
+fn bare_reply(code: u8) -> Reply
     ensures { result ≡ record { code = code; size = 0; bytes = no_bytes } }
 {
     Reply {

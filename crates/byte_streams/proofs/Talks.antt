@@ -1,26 +1,12 @@
--- What follows of Talk alone, of an end whose sent bytes grow with what it receives and a link that gives more for more: it grows, it ends in one list, and it ends where all was received.
-use Rattle.std.proofs.Common.{◌≡◌, ℕ, zero, suc, ◌+◌, List, [], ◌++◌, length, drop, refl, ap, sym, ◌∙◌, subst, arith, append_assoc}
-use Rattle.std.proofs.lemmas.List.{take_all}
-use Rattle.cos_base.specs.Links.{Grows}
-use Rattle.cos_base.specs.Prefixes.{IsPrefix, IsPrefix-same, IsPrefix-rest, IsPrefix-front, IsPrefix-trans, IsPrefix-length}
-use Rattle.end_device.specs.Talk.{talk, IsTalk}
-
-pub prefix-by : (xs rest ys : List ℕ) → ys ≡ xs ++ rest → IsPrefix xs ys
-prefix-by xs rest ys is = subst (λ z. IsPrefix xs z) (sym is) (IsPrefix-front xs rest)
-
--- a part of a piece, behind the same bytes
-pub prefix-part : (front part piece : List ℕ) → IsPrefix part piece → IsPrefix (front ++ part) (front ++ piece)
-prefix-part front part piece p =
-    prefix-by (front ++ part) (drop (length part) piece) (front ++ piece)
-    (ap (λ x. front ++ x) (IsPrefix-rest part piece p) ∙ sym (append_assoc front part (drop (length part) piece)))
-
--- a list that grows keeps prefixes
-pub grows-prefix : (f : List ℕ → List ℕ) (x y : List ℕ) → Grows f → IsPrefix x y → IsPrefix (f x) (f y)
-grows-prefix f x y grows p = subst (λ z. IsPrefix (f x) (f z)) (sym (IsPrefix-rest x y p)) (grows x (drop (length x) y))
+-- What follows of Talk alone, of two sides that give more for more: it grows, it ends in one list, and it ends where all was received.
+use Rattle.std.proofs.Common.{◌≡◌, ℕ, zero, suc, ◌+◌, List, [], refl, ap, sym, ◌∙◌, subst, arith}
+use Rattle.byte_streams.specs.Prefixes.{IsPrefix, Grows}
+use Rattle.byte_streams.specs.Talks.{talk, IsTalk}
+use Rattle.byte_streams.proofs.Prefixes.{IsPrefix-same, IsPrefix-trans, IsPrefix-antisym, Grows-IsPrefix}
 
 -- one exchange further
 pub talk-step : (said out : List ℕ → List ℕ) (x y : List ℕ) → Grows said → Grows out → IsPrefix x y → IsPrefix (said (out x)) (said (out y))
-talk-step said out x y a b p = grows-prefix said (out x) (out y) a (grows-prefix out x y b p)
+talk-step said out x y a b p = Grows-IsPrefix said (out x) (out y) a (Grows-IsPrefix out x y b p)
 
 -- what was received in time stays within Talk
 pub within-talk : (said out : List ℕ → List ℕ) (received next : List ℕ) (k : ℕ) → Grows said → Grows out → IsPrefix received (talk said out k) → IsPrefix next (said (out received)) → IsPrefix next (talk said out (suc k))
@@ -32,13 +18,10 @@ talk-within said out r zero a b fixed = subst (λ z. IsPrefix (said []) z) (sym 
 talk-within said out r (suc k) a b fixed =
     subst (λ z. IsPrefix (said (out (talk said out k))) z) (sym fixed) (talk-step said out _ r a b (talk-within said out r k a b fixed))
 
-pub prefix-antisym : (xs ys : List ℕ) → IsPrefix xs ys → IsPrefix ys xs → xs ≡ ys
-prefix-antisym xs ys p q = sym p ∙ take_all (length xs) ys (IsPrefix-length ys xs q)
-
 -- where all was received, Talk ends there
 pub talk-fixed : (said out : List ℕ → List ℕ) (r : List ℕ) (k : ℕ) → Grows said → Grows out → IsPrefix r (talk said out k) → r ≡ said (out r) → IsTalk said out r
 talk-fixed said out r k a b before fixed =
-    let same : talk said out k ≡ r = prefix-antisym _ _ (talk-within said out r k a b fixed) before in
+    let same : talk said out k ≡ r = IsPrefix-antisym _ _ (talk-within said out r k a b fixed) before in
     (k, same, ap (λ x. said (out x)) same ∙ sym fixed)
 
 -- Talk grows
