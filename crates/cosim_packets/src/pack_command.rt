@@ -1,60 +1,51 @@
 // The packets of a text, one packet a line.
 ghost use Rattle.std.specs.Prelude.{◌≡◌, []};
-ghost use Rattle.cosim_status.specs.Outcomes.{seen, OfFile, Blames, Ends, MeetsOne, MeetsEach};
+ghost use Rattle.outcomes.specs.Seen.{seen};
+ghost use Rattle.outcomes.specs.Outcomes.{OfFile, Performs};
 ghost use Rattle.cos_text.specs.Lines.{lines};
 ghost use Rattle.cosim_packets.specs.Packed.{Packed};
 ghost use Rattle.cosim_packets.specs.Packing.{PacksLine, PacksLines, PacksText};
 
+use crate::refusals::PackRefusal;
 use cos_base::{Files, Octets, Sink};
 use cos_text::first_line;
-use cosim_status::{InputFault, Status, put_text, read_file};
+use outcomes::{JudgeFault, Stop, put_text, read_file};
 use rp_text::{LineFault, read_line};
 use std::alloc::Global;
-
-/// Why a text wasn't packed.
-#[derive(Clone, Copy, Debug, PartialEq, Eq)]
-pub enum PackFault {
-    /// The first line, counted from 1, that is that of no packet; or 1, where the text isn't UTF-8.
-    Line { line: u64 },
-    /// Want of memory.
-    NoMemory,
-}
 
 /// Prints the packets of a text, of which each line is that of one, in their canonical spelling. The last line may lack its line
 /// feed. The first line that is refused is told, and then nothing is printed; a text that isn't UTF-8 is refused at line 1.
 ///
 /// The whole text is judged before anything is printed, so the text and its packets are both in memory.
-pub fn pack<F: Files, K: Sink>(alloc: Global, name: &str, files: &mut F, out: &mut K) -> Status
-    ensures blames { Blames (F.count files.old) (F.count files.new) (K.count out.old) (K.count out.new) result }
-    ensures ends { Ends (OfFile name.now Packed (F.told files.old)) [] (seen F.count F.told files.old files.new) (seen K.count K.told out.old out.new) result }
-    ensures sound { F.sound files.old → K.sound out.old → MeetsOne (OfFile name.now Packed (F.told files.old)) (K.room out.old) result }
-    ensures complete { F.sound files.old → K.sound out.old → MeetsEach (OfFile name.now Packed (F.told files.old)) (K.room out.old) result }
+pub fn pack<F: Files, K: Sink>(
+    alloc: Global,
+    name: &str,
+    files: &mut F,
+    out: &mut K,
+) -> Result<(), Stop<PackRefusal>>
+    ensures { Performs (OfFile name.now Packed (F.told files.old)) (seen F.count F.told files.old files.new)
+        (seen K.count K.told out.old out.new) (F.sound files.old × K.sound out.old) (K.room out.old) result }
 {
-    let text = match read_file(files, name) {
-        Ok(text) => text,
-        Err(status) => return status,
-    };
+    let text = read_file(files, name)?;
     let mut bytes = Octets::make(alloc);
-    match pack_text(alloc, text.as_slice(), &mut bytes) {
-        Ok(()) => put_text(out, bytes.as_slice()),
-        Err(PackFault::Line { line }) => Status::Input(InputFault::Line { line }),
-        Err(PackFault::NoMemory) => Status::NoMemory,
-    }
+    pack_text(alloc, text.as_slice(), &mut bytes)?;
+    put_text(out, bytes.as_slice())?;
+    Ok(())
 }
 
 /// Puts the packets of a text.
-fn pack_text(alloc: Global, text: &[u8], out: &mut Octets) -> Result<(), PackFault>
+fn pack_text(alloc: Global, text: &[u8], out: &mut Octets) -> Result<(), JudgeFault<PackRefusal>>
     requires { out.old.bytes ≡ [] }
     ensures { PacksText text.now out.new.bytes result }
 {
     match str::from_utf8(text) {
         Ok(_) => pack_lines(alloc, text, out),
-        Err(_) => Err(PackFault::Line { line: 1 }),
+        Err(_) => Err(JudgeFault::Refused(PackRefusal::Line { line: 1 })),
     }
 }
 
 /// Puts the packets of the lines of a text.
-fn pack_lines(alloc: Global, text: &[u8], out: &mut Octets) -> Result<(), PackFault>
+fn pack_lines(alloc: Global, text: &[u8], out: &mut Octets) -> Result<(), JudgeFault<PackRefusal>>
     requires { out.old.bytes ≡ [] }
     ensures { PacksLines (lines text.now) out.new.bytes result }
 {
@@ -65,8 +56,8 @@ fn pack_lines(alloc: Global, text: &[u8], out: &mut Octets) -> Result<(), PackFa
         number += 1;
         match pack_line(alloc, line, out) {
             Ok(()) => rest = more,
-            Err(LineFault::Line) => return Err(PackFault::Line { line: number }),
-            Err(LineFault::NoMemory) => return Err(PackFault::NoMemory),
+            Err(LineFault::Line) => return Err(JudgeFault::Refused(PackRefusal::Line { line: number })),
+            Err(LineFault::NoMemory) => return Err(JudgeFault::NoMemory),
         }
     }
     Ok(())

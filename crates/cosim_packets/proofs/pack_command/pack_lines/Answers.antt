@@ -1,7 +1,7 @@
 use Rattle.std.proofs.Common.{arith}
 use Rattle.cos_text.specs.Lines.{lines}
-use Rattle.cosim_packets.specs.PackLaws.{packed-start, packed-more}
-use Rattle.cosim_packets.proofs.packing.pack_lines.Goals as goal
+use Rattle.cosim_packets.proofs.PackLaws.{packed-start, packed-more}
+use Rattle.cosim_packets.proofs.pack_command.pack_lines.Goals as goal
 
 pub loop-rest-init : goal.loop-rest-init
 loop-rest-init c = record { done = packed-start (lines c.args.text.now) c.args.out.now.bytes c.requires; few = omega arith }

@@ -17,13 +17,12 @@ use Rattle.rp_packet.specs.Streams.{Spelled, Spelled_none, Spelled_one, Stream}
 use Rattle.rp_packet.specs.StreamLaws.{same-some, first-spelled}
 use Rattle.rp_packet.specs.Walks.{Stream-front, Stream-none, Faulty-none, one-stream, one-faulty, never-both}
 use Rattle.rp_text.specs.Texts.{line_of}
-use Rattle.cosim_status.specs.declared.status.Status.TheVariants as status
-use Rattle.cosim_status.specs.declared.status.InputFault.{InputFault}
-use Rattle.cosim_status.specs.declared.status.InputFault.TheVariants as input
-use Rattle.cosim_status.specs.Outcomes.{Outcome, Refuses, Prints}
+use Rattle.outcomes.specs.declared.failures.JudgeFault.{JudgeFault}
+use Rattle.outcomes.specs.declared.failures.JudgeFault.TheVariants as list
+use Rattle.outcomes.specs.Outcomes.{Outcome, Refuses, Works}
+use Rattle.cosim_packets.specs.declared.refusals.ShowRefusal.{ShowRefusal}
+use Rattle.cosim_packets.specs.declared.refusals.ShowRefusal.TheVariants as refusal
 use Rattle.cosim_packets.specs.Shown.{IsLoose, Listed, Listed_none, Listed_one, IsWhole, IsCutOff, IsRefused, Shown, Whole, CutOff, Refused}
-use Rattle.cosim_packets.specs.declared.listing.ListFault.{ListFault}
-use Rattle.cosim_packets.specs.declared.listing.ListFault.TheVariants as list
 use Rattle.cosim_packets.specs.Listing.{AddsLine, Adds, Stops, ListsOne, EndsAt, Lists}
 
 pub listed-spelled : {vs : List Packet} {b text : List ℕ} → Listed vs b text → Spelled vs b
@@ -103,8 +102,8 @@ listed-all bytes text at end before =
     }
 
 -- where it stops
-listed-until : (bytes rest old new : List ℕ) (at : ℕ) (fault : InputFault) → rest ≡ drop at bytes → at < length bytes → ListedTo bytes at old → Stops rest at old new fault → EndsAt bytes new fault
-listed-until bytes rest old new at (input.Truncated start held) there more before (same, begins, holds, unfinished) =
+listed-until : (bytes rest old new : List ℕ) (at : ℕ) (fault : ShowRefusal) → rest ≡ drop at bytes → at < length bytes → ListedTo bytes at old → Stops rest at old new fault → EndsAt bytes new fault
+listed-until bytes rest old new at (refusal.Truncated start held) there more before (same, begins, holds, unfinished) =
     let whole : bytes ≡ take at bytes ++ rest = sym (take-append-drop at bytes) ∙ ap (λ x. take at bytes ++ x) (sym there) in
     let size : length (take at bytes) ≡ at = omega (arith, length-take at bytes, more) in
     record {
@@ -116,7 +115,7 @@ listed-until bytes rest old new at (input.Truncated start held) there more befor
       at = begins ∙ sym size;
       there = holds;
     }
-listed-until bytes rest old new at (input.Malformed fault) there more before (same, begins, bad) =
+listed-until bytes rest old new at (refusal.Malformed fault) there more before (same, begins, bad) =
     let whole : bytes ≡ take at bytes ++ rest = sym (take-append-drop at bytes) ∙ ap (λ x. take at bytes ++ x) (sym there) in
     let size : length (take at bytes) ≡ at = omega (arith, length-take at bytes, more) in
     record {
@@ -124,15 +123,8 @@ listed-until bytes rest old new at (input.Malformed fault) there more before (sa
       faulty = record { front = take at bytes; rest = rest; spelled = listed-spelled before.lines; whole = whole; size = size ∙ sym begins; bad = bad };
       lines = subst (λ (t : List ℕ). Listed before.values (take at bytes) t) (sym same) before.lines;
     }
-listed-until bytes rest old new at input.ImageEmpty there more before stops = absurd stops
-listed-until bytes rest old new at (input.ImageTooLarge size got) there more before stops = absurd stops
-listed-until bytes rest old new at (input.Line line) there more before stops = absurd stops
-listed-until bytes rest old new at (input.Assembly line cause) there more before stops = absurd stops
-listed-until bytes rest old new at (input.UartInput port len) there more before stops = absurd stops
-listed-until bytes rest old new at (input.DiskImage port len) there more before stops = absurd stops
-listed-until bytes rest old new at (input.Words len) there more before stops = absurd stops
 
-pub lists-until : (bytes rest old new : List ℕ) (at : ℕ) (fault : ListFault) → rest ≡ drop at bytes → at < length bytes → ListedTo bytes at old → ListsOne rest at old new (Err fault) → Lists bytes new (Err fault)
+pub lists-until : (bytes rest old new : List ℕ) (at : ℕ) (fault : JudgeFault ShowRefusal) → rest ≡ drop at bytes → at < length bytes → ListedTo bytes at old → ListsOne rest at old new (Err fault) → Lists bytes new (Err fault)
 lists-until bytes rest old new at (list.Refused fault) there more before stops = listed-until bytes rest old new at fault there more before stops
 lists-until bytes rest old new at list.NoMemory there more before stops = tt
 
@@ -202,17 +194,17 @@ one-refused b t u f g x y =
     (same-fault f g same.1 same.2 same.3, one-text x.lines y.lines front)
 
 -- A file comes to one outcome.
-pub one-shown : (b : List ℕ) (o p : Outcome) → Shown b o → Shown b p → o ≡ p
-one-shown b _ _ (Whole {text = t} x) (Whole {text = u} y) = ap Prints (one-whole b t u x y)
+pub one-shown : (b : List ℕ) (o p : Outcome ShowRefusal) → Shown b o → Shown b p → o ≡ p
+one-shown b _ _ (Whole {text = t} x) (Whole {text = u} y) = ap (λ text. Works [] text) (one-whole b t u x y)
 one-shown b _ _ (Whole {text = t} x) (CutOff {start = s} {held = h} {text = u} y) = absurd (not-whole b t u s h x y)
 one-shown b _ _ (Whole x) (Refused {fault = f} y) = absurd (never-both b x.values y.values [] f.start f.place f.cause x.stream y.faulty)
 one-shown b _ _ (CutOff {start = s} {held = h} {text = t} x) (Whole {text = u} y) = absurd (not-whole b u t s h y x)
 one-shown b _ _ (CutOff {start = s} {held = h} {text = t} x) (CutOff {start = r} {held = k} {text = u} y) =
     let same = one-cut b t u s h r k x y in
-    ap (λ n. Refuses (status.Input (input.Truncated n h)) t) same.0 ∙ ap (λ n. Refuses (status.Input (input.Truncated r n)) t) same.1 ∙ ap (Refuses (status.Input (input.Truncated r k))) same.2
+    ap (λ n. Refuses (refusal.Truncated n h) t) same.0 ∙ ap (λ n. Refuses (refusal.Truncated r n) t) same.1 ∙ ap (Refuses (refusal.Truncated r k)) same.2
 one-shown b _ _ (CutOff x) (Refused {fault = f} y) = absurd (never-both b x.values y.values x.rest f.start f.place f.cause x.stream y.faulty)
 one-shown b _ _ (Refused {fault = f} x) (Whole y) = absurd (never-both b y.values x.values [] f.start f.place f.cause y.stream x.faulty)
 one-shown b _ _ (Refused {fault = f} x) (CutOff y) = absurd (never-both b y.values x.values y.rest f.start f.place f.cause y.stream x.faulty)
 one-shown b _ _ (Refused {fault = f} {text = t} x) (Refused {fault = g} {text = u} y) =
     let same = one-refused b t u f g x y in
-    ap (λ z. Refuses (status.Input (input.Malformed z)) t) same.0 ∙ ap (Refuses (status.Input (input.Malformed g))) same.1
+    ap (λ z. Refuses (refusal.Malformed z) t) same.0 ∙ ap (Refuses (refusal.Malformed g)) same.1

@@ -1,15 +1,14 @@
 -- How packed lines add up, and that a text is packed in one way.
 use Rattle.std.proofs.Common.{◌≡◌, ℕ, suc, ◌+◌, List, [], ◌∷◌, ◌++◌, length, refl, sym, ap, ◌∙◌, arith, subst}
 use Rattle.std.proofs.lemmas.List.{append_assoc, append-nil, length-append}
-use Rattle.std.specs.Str.{IsUtf8}
 use Rattle.cosim_model.specs.Packets.{Packet}
 use Rattle.rp_packet.specs.Spelling.{packet_bytes}
 use Rattle.rp_text.specs.Texts.{packet_text, IsPackable}
 use Rattle.rp_text.proofs.Unique.{one-line}
 use Rattle.cos_text.specs.Lines.{lines}
-use Rattle.cosim_status.specs.declared.status.Status.TheVariants as status
-use Rattle.cosim_status.specs.declared.status.InputFault.TheVariants as input
-use Rattle.cosim_status.specs.Outcomes.{Outcome, Refuses, Prints}
+use Rattle.outcomes.specs.Outcomes.{Outcome, Refuses, Works}
+use Rattle.cosim_packets.specs.declared.refusals.PackRefusal.{PackRefusal}
+use Rattle.cosim_packets.specs.declared.refusals.PackRefusal.TheVariants.{Line}
 use Rattle.cosim_packets.specs.Packed.{Packs, Packs_none, Packs_one, IsNoPacket, IsFirstRefused, Packed, AllLines, FirstRefused, NoText}
 use Rattle.cosim_packets.specs.Packing.{AddsPacket}
 
@@ -92,12 +91,12 @@ one-refused-line ls m n x y =
     x.place ∙ ap (λ k. k + 1) (same-place x.packs y.packs x.line y.line x.back y.back x.refused y.refused (sym x.whole ∙ y.whole)) ∙ sym y.place
 
 -- A file comes to one outcome.
-pub one-packed : (b : List ℕ) (o p : Outcome) → Packed b o → Packed b p → o ≡ p
-one-packed b _ _ (AllLines text packs) (AllLines too also) = ap Prints (one-packs packs also refl)
+pub one-packed : (b : List ℕ) (o p : Outcome PackRefusal) → Packed b o → Packed b p → o ≡ p
+one-packed b _ _ (AllLines text packs) (AllLines too also) = ap (λ bytes. Works [] bytes) (one-packs packs also refl)
 one-packed b _ _ (AllLines text packs) (FirstRefused too y) = absurd (no-refused packs y.front y.line y.back y.whole y.refused)
 one-packed b _ _ (AllLines text packs) (NoText never) = absurd (never text)
 one-packed b _ _ (FirstRefused text x) (AllLines too packs) = absurd (no-refused packs x.front x.line x.back x.whole x.refused)
-one-packed b _ _ (FirstRefused {number = m} text x) (FirstRefused {number = n} too y) = ap (λ k. Refuses (status.Input (input.Line k)) []) (one-refused-line (lines b) m n x y)
+one-packed b _ _ (FirstRefused {number = m} text x) (FirstRefused {number = n} too y) = ap (λ k. Refuses (Line k) []) (one-refused-line (lines b) m n x y)
 one-packed b _ _ (FirstRefused text x) (NoText never) = absurd (never text)
 one-packed b _ _ (NoText never) (AllLines text packs) = absurd (never text)
 one-packed b _ _ (NoText never) (FirstRefused text x) = absurd (never text)

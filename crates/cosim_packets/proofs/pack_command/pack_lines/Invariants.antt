@@ -1,7 +1,7 @@
 use Rattle.std.proofs.Common.{◌+◌, ◌≤◌, length}
 use Rattle.cos_text.specs.Lines.{lines}
-use Rattle.cosim_packets.specs.PackLaws.{PackedTo}
-use Rattle.cosim_packets.proofs.packing.pack_lines.Given as goal
+use Rattle.cosim_packets.proofs.PackLaws.{PackedTo}
+use Rattle.cosim_packets.proofs.pack_command.pack_lines.Given as goal
 
 abbrev pub invariant-loop-rest : goal.invariant-loop-rest
 invariant-loop-rest l = record {
