@@ -29,7 +29,12 @@ pub fn list(alloc: Global, bytes: &[u8], text: &mut Octets) -> Result<(), JudgeF
 }
 
 /// Appends the line of the packet at the front of bytes, which begin at this place of the file. It gives the packet's size.
-fn list_one(alloc: Global, rest: &[u8], at: usize, text: &mut Octets) -> Result<usize, JudgeFault<ShowRefusal>>
+fn list_one(
+    alloc: Global,
+    rest: &[u8],
+    at: usize,
+    text: &mut Octets,
+) -> Result<usize, JudgeFault<ShowRefusal>>
     ensures { ListsOne rest.now at text.old.bytes text.new.bytes result }
 {
     let start = at as u64;

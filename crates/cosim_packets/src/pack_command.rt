@@ -56,7 +56,9 @@ fn pack_lines(alloc: Global, text: &[u8], out: &mut Octets) -> Result<(), JudgeF
         number += 1;
         match pack_line(alloc, line, out) {
             Ok(()) => rest = more,
-            Err(LineFault::Line) => return Err(JudgeFault::Refused(PackRefusal::Line { line: number })),
+            Err(LineFault::Line) => return Err(JudgeFault::Refused(PackRefusal::Line {
+                line: number,
+            })),
             Err(LineFault::NoMemory) => return Err(JudgeFault::NoMemory),
         }
     }
