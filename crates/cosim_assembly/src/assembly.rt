@@ -1,13 +1,14 @@
 //! The command `asm`.
 
-ghost use Rattle.std.specs.Prelude.{◌≡◌, List, ℕ, ◌∷◌, [], Ok, Err, IfOk, MatchResult};
-ghost use Rattle.rv_asm.specs.declared.fault.Cause.{Cause};
-ghost use Rattle.cosim_status.specs.Outcomes.{Seen, seen, IsUntouched, Blames, Ends, MeetsOne, MeetsEach};
+ghost use Rattle.std.specs.Prelude.{◌≡◌, List, ℕ, Ok, Err, IfOk, IfErr};
+ghost use Rattle.outcomes.specs.Seen.{Seen, seen, IsUntouched};
+ghost use Rattle.outcomes.specs.Outcomes.{Performs};
 ghost use Rattle.cosim_assembly.specs.Images.{image_of};
-ghost use Rattle.cosim_assembly.specs.Assemblies.{Images, AsmComes};
+ghost use Rattle.cosim_assembly.specs.Assemblies.{Images, IsRefused, AsmComes};
 
+use crate::refusals::AsmRefusal;
 use cos_base::{Files, NoMemory, Octets};
-use cosim_status::{InputFault, Status, read_file, write_file};
+use outcomes::{JudgeFault, Stop, read_file, write_file};
 use rv_asm::{AsmFault, Cause, assemble};
 use std::alloc::Global;
 
@@ -25,35 +26,31 @@ fn image_of(alloc: Global, words: &[u32]) -> Result<Octets, NoMemory>
     Ok(image)
 }
 
-/// What the file is refused with.
-fn refusal(fault: AsmFault) -> Result<InputFault, NoMemory>
-    ensures { IfOk result (λ refused. (line : ℕ) × (cause : Cause) × (fault ≡ AsmFault.Line line cause) × (refused ≡ InputFault.Assembly line cause)) }
-{
-    match fault {
-        AsmFault::Line { line, cause } => Ok(InputFault::Assembly { line, cause }),
-        AsmFault::NoMemory => Err(NoMemory),
-    }
-}
-
 /// The image of a text, or why it is refused.
-fn image_of_text(alloc: Global, text: &str) -> Result<Result<Octets, InputFault>, NoMemory>
-    ensures { IfOk result (λ judged. MatchResult judged
-        (λ image. Images text.now (Ok image.bytes)) (λ fault. Images text.now (Err fault))) }
+fn image_of_text(alloc: Global, text: &str) -> Result<Octets, JudgeFault<AsmRefusal>>
+    ensures ok { IfOk result (λ image. Images text.now (Ok image.bytes)) }
+    ensures err { IfErr result (λ fault. IsRefused text.now fault) }
 {
     match assemble(alloc, text, ORIGIN) {
-        Ok(words) => Ok(Ok(image_of(alloc, words.as_slice())?)),
-        Err(fault) => Ok(Err(refusal(fault)?)),
+        Ok(words) => match image_of(alloc, words.as_slice()) {
+            Ok(image) => Ok(image),
+            Err(NoMemory) => Err(JudgeFault::NoMemory),
+        },
+        Err(AsmFault::Line { line, cause }) => {
+            Err(JudgeFault::Refused(AsmRefusal::Assembly { line, cause }))
+        }
+        Err(AsmFault::NoMemory) => Err(JudgeFault::NoMemory),
     }
 }
 
 /// The image of a file's bytes as a text of assembly, or why they are refused.
-fn image(alloc: Global, bytes: &[u8]) -> Result<Result<Octets, InputFault>, NoMemory>
-    ensures { IfOk result (λ judged. MatchResult judged
-        (λ image. Images bytes.now (Ok image.bytes)) (λ fault. Images bytes.now (Err fault))) }
+fn image_of_bytes(alloc: Global, bytes: &[u8]) -> Result<Octets, JudgeFault<AsmRefusal>>
+    ensures ok { IfOk result (λ image. Images bytes.now (Ok image.bytes)) }
+    ensures err { IfErr result (λ fault. IsRefused bytes.now fault) }
 {
     match str::from_utf8(bytes) {
         Ok(text) => image_of_text(alloc, text),
-        Err(_) => Ok(Err(InputFault::Assembly {
+        Err(_) => Err(JudgeFault::Refused(AsmRefusal::Assembly {
             line: 1,
             cause: Cause::Syntax,
         })),
@@ -63,20 +60,17 @@ fn image(alloc: Global, bytes: &[u8]) -> Result<Result<Octets, InputFault>, NoMe
 /// Writes the image of a text of assembly: its words from the beginning of RAM on, the lowest byte of each first.
 ///
 /// Nothing is printed, and a text that is refused writes nothing. Memory holds the text, its words and its bytes.
-pub fn asm<F: Files>(alloc: Global, file: &str, target: &str, files: &mut F) -> Status
-    ensures blames { (out : ℕ) → Blames (F.count files.old) (F.count files.new) out out result }
-    ensures ends { (out : Seen (List ℕ)) → IsUntouched out →
-        Ends (AsmComes file.now target.now (F.told files.old)) (target.now ∷ []) (seen F.count F.told files.old files.new) out result }
-    ensures sound { F.sound files.old → (room : ℕ) → MeetsOne (AsmComes file.now target.now (F.told files.old)) room result }
-    ensures complete { F.sound files.old → (room : ℕ) → MeetsEach (AsmComes file.now target.now (F.told files.old)) room result }
+pub fn asm<F: Files>(
+    alloc: Global,
+    file: &str,
+    target: &str,
+    files: &mut F,
+) -> Result<(), Stop<AsmRefusal>>
+    ensures { (out : Seen (List ℕ)) (room : ℕ) → IsUntouched out →
+        Performs (AsmComes file.now target.now (F.told files.old)) (seen F.count F.told files.old files.new) out (F.sound files.old) room result }
 {
-    let text = match read_file(files, file) {
-        Ok(text) => text,
-        Err(status) => return status,
-    };
-    match image(alloc, text.as_slice()) {
-        Ok(Ok(image)) => write_file(files, target, image.as_slice()),
-        Ok(Err(fault)) => Status::Input(fault),
-        Err(NoMemory) => Status::NoMemory,
-    }
+    let text = read_file(files, file)?;
+    let image = image_of_bytes(alloc, text.as_slice())?;
+    write_file(files, target, image.as_slice())?;
+    Ok(())
 }

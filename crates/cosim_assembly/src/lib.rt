@@ -3,8 +3,10 @@
 
 mod assembly;
 mod listing;
+mod refusals;
 #[cfg(test)]
 mod tests;
 
 pub use assembly::asm;
 pub use listing::dis;
+pub use refusals::{AsmRefusal, DisRefusal};

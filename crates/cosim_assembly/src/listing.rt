@@ -1,12 +1,14 @@
 //! The command `dis`.
 
 ghost use Rattle.std.specs.Prelude.{◌≡◌, ◌≤◌, ◌+◌, [], ◌∷◌, length, IfOk};
-ghost use Rattle.cosim_status.specs.Outcomes.{seen, Blames, Ends, MeetsOne, MeetsEach};
+ghost use Rattle.outcomes.specs.Seen.{seen};
+ghost use Rattle.outcomes.specs.Outcomes.{Performs};
 ghost use Rattle.cosim_assembly.specs.Images.{words_of};
 ghost use Rattle.cosim_assembly.specs.Listings.{lines_of, DisComes};
 
+use crate::refusals::DisRefusal;
 use cos_base::{Files, NoMemory, Octets, Sink};
-use cosim_status::{InputFault, Status, put_text, read_file};
+use outcomes::{Stop, put_text, read_file};
 use rv_asm::disassemble;
 use std::alloc::Global;
 
@@ -37,24 +39,22 @@ fn lines_of(alloc: Global, bytes: &[u8]) -> Result<Octets, NoMemory>
 /// Prints the words of an image, a line each.
 ///
 /// The file is read and listed before anything is printed. Memory holds its bytes and its lines.
-pub fn dis<F: Files, K: Sink>(alloc: Global, file: &str, files: &mut F, out: &mut K) -> Status
-    ensures blames { Blames (F.count files.old) (F.count files.new) (K.count out.old) (K.count out.new) result }
-    ensures ends { Ends (DisComes file.now (F.told files.old)) [] (seen F.count F.told files.old files.new)
-        (seen K.count K.told out.old out.new) result }
-    ensures sound { F.sound files.old → K.sound out.old → MeetsOne (DisComes file.now (F.told files.old)) (K.room out.old) result }
-    ensures complete { F.sound files.old → K.sound out.old → MeetsEach (DisComes file.now (F.told files.old)) (K.room out.old) result }
+pub fn dis<F: Files, K: Sink>(
+    alloc: Global,
+    file: &str,
+    files: &mut F,
+    out: &mut K,
+) -> Result<(), Stop<DisRefusal>>
+    ensures { Performs (DisComes file.now (F.told files.old)) (seen F.count F.told files.old files.new)
+        (seen K.count K.told out.old out.new) (F.sound files.old × K.sound out.old) (K.room out.old) result }
 {
-    let image = match read_file(files, file) {
-        Ok(image) => image,
-        Err(status) => return status,
-    };
+    let image = read_file(files, file)?;
     if image.len() % 4 != 0 {
-        return Status::Input(InputFault::Words {
+        return Err(Stop::Refused(DisRefusal::Words {
             len: image.len() as u64,
-        });
+        }));
     }
-    match lines_of(alloc, image.as_slice()) {
-        Ok(text) => put_text(out, text.as_slice()),
-        Err(NoMemory) => Status::NoMemory,
-    }
+    let text = lines_of(alloc, image.as_slice())?;
+    put_text(out, text.as_slice())?;
+    Ok(())
 }

@@ -1,2 +1,4 @@
+pub mod ListLaws
+pub mod PackLaws
 pub mod ShowLaws
 pub mod PackSteps

@@ -4,10 +4,10 @@ use Rattle.cosim_model.specs.Packets.{Packet}
 use Rattle.rp_packet.specs.Spelling.{Spells}
 use Rattle.rp_packet.specs.Streams.{Unfinished, Bad}
 use Rattle.rp_text.specs.Texts.{line_of}
-use Rattle.cosim_status.specs.declared.status.InputFault.{InputFault}
-use Rattle.cosim_status.specs.declared.status.InputFault.TheVariants as input
-use Rattle.cosim_packets.specs.declared.listing.ListFault.{ListFault}
-use Rattle.cosim_packets.specs.declared.listing.ListFault.TheVariants.{Refused, NoMemory}
+use Rattle.outcomes.specs.declared.failures.JudgeFault.{JudgeFault}
+use Rattle.outcomes.specs.declared.failures.JudgeFault.TheVariants.{Refused, NoMemory}
+use Rattle.cosim_packets.specs.declared.refusals.ShowRefusal.{ShowRefusal}
+use Rattle.cosim_packets.specs.declared.refusals.ShowRefusal.TheVariants.{Malformed, Truncated}
 use Rattle.cosim_packets.specs.Shown.{IsLoose, IsWhole, IsCutOff, IsRefused}
 
 -- the line of one packet is appended, which these bytes spell
@@ -24,37 +24,23 @@ pub record Adds (rest : List ℕ) (size : ℕ) (old new : List ℕ) : Type 0 whe
   pub line : AddsLine value (take size rest) old new
 
 -- nothing is appended, since what stands at the front isn't whole or is refused
-abbrev pub Stops : List ℕ → ℕ → List ℕ → List ℕ → InputFault → Type 0
-Stops rest at old new (input.Truncated start held) = (new ≡ old) × (start ≡ at) × (held ≡ length rest) × Unfinished rest
-Stops rest at old new (input.Malformed fault) = (new ≡ old) × (fault.start ≡ at) × Bad rest fault.place fault.cause
-Stops rest at old new input.ImageEmpty = ⊥
-Stops rest at old new (input.ImageTooLarge size got) = ⊥
-Stops rest at old new (input.Line line) = ⊥
-Stops rest at old new (input.Assembly line cause) = ⊥
-Stops rest at old new (input.UartInput port len) = ⊥
-Stops rest at old new (input.DiskImage port len) = ⊥
-Stops rest at old new (input.Words len) = ⊥
+abbrev pub Stops : List ℕ → ℕ → List ℕ → List ℕ → ShowRefusal → Type 0
+Stops rest at old new (Truncated start held) = (new ≡ old) × (start ≡ at) × (held ≡ length rest) × Unfinished rest
+Stops rest at old new (Malformed fault) = (new ≡ old) × (fault.start ≡ at) × Bad rest fault.place fault.cause
 
 -- what listing the packet at the front answers, which begins at this place
-abbrev pub ListsOne : List ℕ → ℕ → List ℕ → List ℕ → Result ℕ ListFault → Type 0
+abbrev pub ListsOne : List ℕ → ℕ → List ℕ → List ℕ → Result ℕ (JudgeFault ShowRefusal) → Type 0
 ListsOne rest at old new (Ok size) = Adds rest size old new
 ListsOne rest at old new (Err (Refused fault)) = Stops rest at old new fault
 ListsOne rest at old new (Err NoMemory) = Unit {0}
 
 -- the text before a refusal of a whole file
-abbrev pub EndsAt : List ℕ → List ℕ → InputFault → Type 0
-EndsAt b text (input.Truncated start held) = IsCutOff b start held text
-EndsAt b text (input.Malformed fault) = IsRefused b fault text
-EndsAt b text input.ImageEmpty = ⊥
-EndsAt b text (input.ImageTooLarge size got) = ⊥
-EndsAt b text (input.Line line) = ⊥
-EndsAt b text (input.Assembly line cause) = ⊥
-EndsAt b text (input.UartInput port len) = ⊥
-EndsAt b text (input.DiskImage port len) = ⊥
-EndsAt b text (input.Words len) = ⊥
+abbrev pub EndsAt : List ℕ → List ℕ → ShowRefusal → Type 0
+EndsAt b text (Truncated start held) = IsCutOff b start held text
+EndsAt b text (Malformed fault) = IsRefused b fault text
 
 -- what listing all answers
-abbrev pub Lists : List ℕ → List ℕ → Result Unit ListFault → Type 0
+abbrev pub Lists : List ℕ → List ℕ → Result Unit (JudgeFault ShowRefusal) → Type 0
 Lists b text (Ok u) = IsWhole b text
 Lists b text (Err (Refused fault)) = EndsAt b text fault
 Lists b text (Err NoMemory) = Unit {0}

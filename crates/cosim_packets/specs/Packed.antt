@@ -6,9 +6,9 @@ use Rattle.cosim_model.specs.Packets.{Packet}
 use Rattle.rp_packet.specs.Spelling.{packet_bytes}
 use Rattle.rp_text.specs.Texts.{packet_text, IsPackable}
 use Rattle.cos_text.specs.Lines.{lines}
-use Rattle.cosim_status.specs.declared.status.Status.TheVariants as status
-use Rattle.cosim_status.specs.declared.status.InputFault.TheVariants as input
-use Rattle.cosim_status.specs.Outcomes.{Outcome, Refuses, Prints}
+use Rattle.outcomes.specs.Outcomes.{Outcome, Refuses, Works}
+use Rattle.cosim_packets.specs.declared.refusals.PackRefusal.{PackRefusal}
+use Rattle.cosim_packets.specs.declared.refusals.PackRefusal.TheVariants.{Line}
 
 -- Each line is that of a packet that can be written, and the bytes are the packets' canonical spellings, one behind the other.
 pub data Packs : List (List ℕ) → List ℕ → Type 0 where
@@ -30,7 +30,7 @@ pub record IsFirstRefused (ls : List (List ℕ)) (number : ℕ) : Type 0 where
   pub refused : IsNoPacket line
   pub place : number ≡ length front + 1
 
-pub data Packed (b : List ℕ) : Outcome → Type 0 where
-  AllLines : {bytes : List ℕ} → IsUtf8 b → Packs (lines b) bytes → Packed b (Prints bytes)
-  FirstRefused : {number : ℕ} → IsUtf8 b → IsFirstRefused (lines b) number → Packed b (Refuses (status.Input (input.Line number)) [])
-  NoText : (IsUtf8 b → ⊥) → Packed b (Refuses (status.Input (input.Line 1)) [])
+pub data Packed (b : List ℕ) : Outcome PackRefusal → Type 0 where
+  AllLines : {bytes : List ℕ} → IsUtf8 b → Packs (lines b) bytes → Packed b (Works [] bytes)
+  FirstRefused : {number : ℕ} → IsUtf8 b → IsFirstRefused (lines b) number → Packed b (Refuses (Line number) [])
+  NoText : (IsUtf8 b → ⊥) → Packed b (Refuses (Line 1) [])

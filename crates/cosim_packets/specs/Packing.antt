@@ -1,17 +1,16 @@
 -- What packing the lines of a text does, one after the other.
-use Rattle.std.specs.Prelude.{◌≡◌, ℕ, List, [], ◌++◌, length, Result, Ok, Err}
-use Rattle.std.specs.Str.{IsUtf8}
+use Rattle.std.specs.Prelude.{◌≡◌, ℕ, List, [], ◌++◌, Result, Ok, Err}
 use Rattle.cosim_model.specs.Packets.{Packet}
 use Rattle.rp_packet.specs.Spelling.{packet_bytes}
 use Rattle.rp_text.specs.Texts.{packet_text, IsPackable}
 use Rattle.rp_text.specs.declared.fault.LineFault.{LineFault}
 use Rattle.rp_text.specs.declared.fault.LineFault.TheVariants as line_fault
-use Rattle.cos_text.specs.Lines.{lines}
-use Rattle.cosim_status.specs.Outcomes.{Refuses, Prints}
-use Rattle.cosim_status.specs.declared.status.Status.TheVariants as status
-use Rattle.cosim_status.specs.declared.status.InputFault.TheVariants as input
-use Rattle.cosim_packets.specs.declared.packing.PackFault.{PackFault}
-use Rattle.cosim_packets.specs.declared.packing.PackFault.TheVariants.{Line, NoMemory}
+use Rattle.outcomes.specs.declared.failures.JudgeFault.{JudgeFault}
+use Rattle.outcomes.specs.declared.failures.JudgeFault.TheVariants.{Refused, NoMemory}
+use Rattle.outcomes.specs.Outcomes.{Works}
+use Rattle.outcomes.specs.Steps.{ComesRefused}
+use Rattle.cosim_packets.specs.declared.refusals.PackRefusal.{PackRefusal}
+use Rattle.cosim_packets.specs.declared.refusals.PackRefusal.TheVariants.{Line}
 use Rattle.cosim_packets.specs.Packed.{Packs, IsNoPacket, IsFirstRefused, Packed}
 
 -- the packet of this line is appended
@@ -28,13 +27,12 @@ PacksLine line old new (Err line_fault.Line) = IsNoPacket line
 PacksLine line old new (Err line_fault.NoMemory) = Unit {0}
 
 -- what packing all lines answers
-abbrev pub PacksLines : List (List ℕ) → List ℕ → Result Unit PackFault → Type 0
+abbrev pub PacksLines : List (List ℕ) → List ℕ → Result Unit (JudgeFault PackRefusal) → Type 0
 PacksLines ls new (Ok u) = Packs ls new
-PacksLines ls new (Err (Line number)) = IsFirstRefused ls number
+PacksLines ls new (Err (Refused (Line number))) = IsFirstRefused ls number
 PacksLines ls new (Err NoMemory) = Unit {0}
 
 -- what packing a file answers
-abbrev pub PacksText : List ℕ → List ℕ → Result Unit PackFault → Type 0
-PacksText text new (Ok u) = Packed text (Prints new)
-PacksText text new (Err (Line number)) = Packed text (Refuses (status.Input (input.Line number)) [])
-PacksText text new (Err NoMemory) = Unit {0}
+abbrev pub PacksText : List ℕ → List ℕ → Result Unit (JudgeFault PackRefusal) → Type 0
+PacksText text new (Ok u) = Packed text (Works [] new)
+PacksText text new (Err fault) = ComesRefused (Packed text) fault

@@ -5,9 +5,9 @@ use Rattle.rp_packet.specs.declared.fault.PacketFault.{PacketFault}
 use Rattle.rp_packet.specs.Spelling.{Spells, Canonical}
 use Rattle.rp_packet.specs.Streams.{Stream, Faulty}
 use Rattle.rp_text.specs.Texts.{line_of}
-use Rattle.cosim_status.specs.declared.status.Status.TheVariants as status
-use Rattle.cosim_status.specs.declared.status.InputFault.TheVariants as input
-use Rattle.cosim_status.specs.Outcomes.{Outcome, Refuses, Prints}
+use Rattle.outcomes.specs.Outcomes.{Outcome, Refuses, Works}
+use Rattle.cosim_packets.specs.declared.refusals.ShowRefusal.{ShowRefusal}
+use Rattle.cosim_packets.specs.declared.refusals.ShowRefusal.TheVariants.{Malformed, Truncated}
 
 -- The Boolean says that bytes aren't the canonical spelling of a value.
 abbrev pub IsLoose : Packet → List ℕ → Bool → Type 0
@@ -43,7 +43,7 @@ pub record IsRefused (b : List ℕ) (fault : PacketFault) (text : List ℕ) : Ty
   pub faulty : Faulty values b fault.start fault.place fault.cause
   pub lines : Listed values faulty.front text
 
-pub data Shown (b : List ℕ) : Outcome → Type 0 where
-  Whole : {text : List ℕ} → IsWhole b text → Shown b (Prints text)
-  CutOff : {start held : ℕ} {text : List ℕ} → IsCutOff b start held text → Shown b (Refuses (status.Input (input.Truncated start held)) text)
-  Refused : {fault : PacketFault} {text : List ℕ} → IsRefused b fault text → Shown b (Refuses (status.Input (input.Malformed fault)) text)
+pub data Shown (b : List ℕ) : Outcome ShowRefusal → Type 0 where
+  Whole : {text : List ℕ} → IsWhole b text → Shown b (Works [] text)
+  CutOff : {start held : ℕ} {text : List ℕ} → IsCutOff b start held text → Shown b (Refuses (Truncated start held) text)
+  Refused : {fault : PacketFault} {text : List ℕ} → IsRefused b fault text → Shown b (Refuses (Malformed fault) text)

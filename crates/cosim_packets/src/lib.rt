@@ -2,12 +2,12 @@
 #![tactic(auto)]
 
 mod listing;
-#[cfg(test)]
-mod pack_tests;
-mod packing;
-mod showing;
+mod pack_command;
+mod refusals;
+mod show_command;
 #[cfg(test)]
 mod tests;
 
-pub use packing::pack;
-pub use showing::show;
+pub use pack_command::pack;
+pub use refusals::{PackRefusal, ShowRefusal};
+pub use show_command::show;

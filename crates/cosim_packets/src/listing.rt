@@ -4,23 +4,16 @@ ghost use Rattle.rp_packet.specs.Values.{value_of};
 ghost use Rattle.rp_packet.specs.Spelling.{Spells};
 ghost use Rattle.cosim_packets.specs.Listing.{AddsLine, ListsOne, Lists};
 
+use crate::refusals::ShowRefusal;
 use cos_base::{NoMemory, Octets};
-use cosim_status::InputFault;
+use outcomes::JudgeFault;
 use rp_framing::front_of;
 use rp_packet::{Packet, PacketFault, ReadFault, is_canonical};
 use rp_text::packet_line;
 use std::alloc::Global;
 
-/// Why not all bytes were listed.
-pub enum ListFault {
-    /// What stands behind the packets that were listed isn't one.
-    Refused(InputFault),
-    /// Want of memory.
-    NoMemory,
-}
-
 /// Appends the lines of the packets that stand in bytes, up to the first that isn't one.
-pub fn list(alloc: Global, bytes: &[u8], text: &mut Octets) -> Result<(), ListFault>
+pub fn list(alloc: Global, bytes: &[u8], text: &mut Octets) -> Result<(), JudgeFault<ShowRefusal>>
     requires { text.old.bytes ≡ [] }
     ensures { Lists bytes.now text.new.bytes result }
 {
@@ -36,27 +29,32 @@ pub fn list(alloc: Global, bytes: &[u8], text: &mut Octets) -> Result<(), ListFa
 }
 
 /// Appends the line of the packet at the front of bytes, which begin at this place of the file. It gives the packet's size.
-fn list_one(alloc: Global, rest: &[u8], at: usize, text: &mut Octets) -> Result<usize, ListFault>
+fn list_one(
+    alloc: Global,
+    rest: &[u8],
+    at: usize,
+    text: &mut Octets,
+) -> Result<usize, JudgeFault<ShowRefusal>>
     ensures { ListsOne rest.now at text.old.bytes text.new.bytes result }
 {
     let start = at as u64;
     match front_of(alloc, rest) {
-        Ok(None) => Err(ListFault::Refused(InputFault::Truncated {
+        Ok(None) => Err(JudgeFault::Refused(ShowRefusal::Truncated {
             start,
             held: rest.len() as u64,
         })),
         Ok(Some((packet, size))) => match add_line(&packet, rest.split_at(size).0, text) {
             Ok(()) => Ok(size),
-            Err(NoMemory) => Err(ListFault::NoMemory),
+            Err(NoMemory) => Err(JudgeFault::NoMemory),
         },
         Err(ReadFault::Malformed(fault)) => {
-            Err(ListFault::Refused(InputFault::Malformed(PacketFault {
+            Err(JudgeFault::Refused(ShowRefusal::Malformed(PacketFault {
                 start,
                 place: fault.place,
                 cause: fault.cause,
             })))
         }
-        Err(ReadFault::NoMemory) => Err(ListFault::NoMemory),
+        Err(ReadFault::NoMemory) => Err(JudgeFault::NoMemory),
     }
 }
 

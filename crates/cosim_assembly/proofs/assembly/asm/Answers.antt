@@ -1,46 +1,45 @@
-use Rattle.std.proofs.Common.{[], refl}
-use Rattle.cosim_status.specs.Outcomes.{Refuses}
-use Rattle.cosim_status.specs.declared.status.Status.TheVariants as status
-use Rattle.cosim_status.proofs.Commands.{comes-read, comes-lacking, one-of-file, meets-each, unread-meets, written-ends, written-meets}
-use Rattle.cosim_status.proofs.After.{written-after}
+use Rattle.std.proofs.Common.{[], refl, subst}
+use Rattle.std.proofs.lemmas.Result.{err_from_is_err_and}
+use Rattle.std.specs.declared.result.Result.TheVariants.{Err}
+use Rattle.outcomes.specs.Outcomes.{Written}
+use Rattle.outcomes.specs.Seen.{seen}
+use Rattle.outcomes.specs.Steps.{IsWritten}
+use Rattle.outcomes.proofs.Commands.{comes-read, one-of-file}
+use Rattle.outcomes.proofs.Performing.{file-unread, file-refused, written-performs, unwritten-performs}
+use Rattle.outcomes.proofs.Writing.{nothing-written, one-more-written}
 use Rattle.cosim_assembly.specs.Assemblies.{Judges}
 use Rattle.cosim_assembly.proofs.OneImage.{one-judged, image-judges, fault-judges}
 use Rattle.cosim_assembly.proofs.assembly.asm.Goals as goal
 
-pub returns-in-Err-clause-sound : goal.returns-in-Err-clause-sound
-returns-in-Err-clause-sound g c = λ files room.
-    unread-meets _ c.args.file.now _ _ _ (comes-lacking c.args.file.now (Judges c.args.target.now) _) c.in-Err.ensures.err (c.in-Err.ensures.is_sound files).1
+pub returns-in_err-text : goal.returns-in_err-text
+returns-in_err-text g c = λ out room same.
+    let p = err_from_is_err_and c.from_residual.result c.from_residual.ensures.1 in
+    rw (p.1, p.2)
+    (file-unread c.args.file.now (Judges c.args.target.now) _ out _ room _ (one-judged c.args.target.now) c.in_err-text.ensures.err same
+    (λ sound. (c.in_err-text.ensures.is_sound sound).1) (λ sound. g.met.F.Files.sound_tells c.args.files.now sound))
 
-pub returns-in-Err-clause-complete : goal.returns-in-Err-clause-complete
-returns-in-Err-clause-complete g c = λ files room.
-    meets-each _ _ _ (one-of-file c.args.file.now (Judges c.args.target.now) _ (g.met.F.Files.sound_tells c.args.files.now files) (one-judged c.args.target.now)) (returns-in-Err-clause-sound g c files room)
+pub returns-in_err-image : goal.returns-in_err-image
+returns-in_err-image g c = λ out room same.
+    let p = err_from_is_err_and c.from_residual-in_err-image.result c.from_residual-in_err-image.ensures.1 in
+    rw (p.1, p.2)
+    (file-refused c.args.file.now (Judges c.args.target.now) _ out _ room _ c.in_err-image.field-0.0 (one-judged c.args.target.now) c.in_ok-text.ensures.ok
+    (fault-judges c.args.target.now _ _ _ c.as_slice.ensures c.in_err-image.ensures.err) same (λ sound. g.met.F.Files.sound_tells c.args.files.now sound))
 
-pub returns-in-Ok-Ok-clause-ends : goal.returns-in-Ok-Ok-clause-ends
-returns-in-Ok-Ok-clause-ends g c = λ out same.
-    let by = image-judges c.args.target.now _ _ _ c.as_slice.ensures (rw c.in-Ok-Ok.field-0-is at c.in-Ok-Ok.ensures) in
-    written-ends _ _ _ c.args.target.now _ _ (comes-read c.args.file.now (Judges c.args.target.now) _ _ _ c.in-Ok.ensures.ok by)
-    (written-after _ _ c.args.target.now _ _ c.in-Ok.ensures.ok.stands refl refl (rw c.as_slice-in-Ok-Ok.ensures at c.write_file.ensures.writes)) same
+pub returns-in_err-write_file : goal.returns-in_err-write_file
+returns-in_err-write_file g c = λ out room same.
+    let p = err_from_is_err_and c.from_residual-in_err-write_file.result c.from_residual-in_err-write_file.ensures.1 in
+    let by = image-judges c.args.target.now _ _ _ c.as_slice.ensures c.in_ok-image.ensures.ok in
+    let one : Written = record { name = c.args.target.now; bytes = c.in_ok-image.image.bytes } in
+    let after = seen g.F.Files.count g.F.Files.told c.read_file.new.files c.write_file.new.files in
+    rw (p.1, p.2)
+    (unwritten-performs _ _ _ out _ room [] one [] [] c.in_err-write_file.field-0.0 (comes-read c.args.file.now (Judges c.args.target.now) _ _ _ c.in_ok-text.ensures.ok by)
+    (nothing-written _ c.in_ok-text.ensures.ok.stands) refl refl (subst (λ b. IsWritten after c.args.target.now b (Err c.in_err-write_file.field-0.0)) c.as_slice-2.ensures c.in_err-write_file.ensures.writes) same
+    (λ sound. (c.in_err-write_file.ensures.is_sound (c.in_ok-text.ensures.is_sound sound).0).1))
 
-pub returns-in-Ok-Ok-clause-sound : goal.returns-in-Ok-Ok-clause-sound
-returns-in-Ok-Ok-clause-sound g c = λ files room.
-    let by = image-judges c.args.target.now _ _ _ c.as_slice.ensures (rw c.in-Ok-Ok.field-0-is at c.in-Ok-Ok.ensures) in
-    written-meets _ _ _ c.args.target.now _ _ (comes-read c.args.file.now (Judges c.args.target.now) _ _ _ c.in-Ok.ensures.ok by)
-    (rw c.as_slice-in-Ok-Ok.ensures at c.write_file.ensures.writes) (c.write_file.ensures.is_sound (c.in-Ok.ensures.is_sound files).0)
-
-pub returns-in-Ok-Ok-clause-complete : goal.returns-in-Ok-Ok-clause-complete
-returns-in-Ok-Ok-clause-complete g c = λ files room.
-    meets-each _ _ _ (one-of-file c.args.file.now (Judges c.args.target.now) _ (g.met.F.Files.sound_tells c.args.files.now files) (one-judged c.args.target.now)) (returns-in-Ok-Ok-clause-sound g c files room)
-
-pub returns-in-Ok-Err-clause-ends : goal.returns-in-Ok-Err-clause-ends
-returns-in-Ok-Err-clause-ends g c = λ out same.
-    let by = fault-judges c.args.target.now _ _ _ c.as_slice.ensures (rw c.in-Ok-Err.field-0-is at c.in-Ok-Err.ensures) in
-    ([], comes-read c.args.file.now (Judges c.args.target.now) _ _ _ c.in-Ok.ensures.ok by, c.in-Ok.ensures.ok.stands.told, same)
-
-pub returns-in-Ok-Err-clause-sound : goal.returns-in-Ok-Err-clause-sound
-returns-in-Ok-Err-clause-sound g c = λ files room.
-    let by = fault-judges c.args.target.now _ _ _ c.as_slice.ensures (rw c.in-Ok-Err.field-0-is at c.in-Ok-Err.ensures) in
-    (Refuses (status.Input c.in-Ok-Err.fault) [], comes-read c.args.file.now (Judges c.args.target.now) _ _ _ c.in-Ok.ensures.ok by, ([], refl))
-
-pub returns-in-Ok-Err-clause-complete : goal.returns-in-Ok-Err-clause-complete
-returns-in-Ok-Err-clause-complete g c = λ files room.
-    meets-each _ room (status.Input c.in-Ok-Err.fault) (one-of-file c.args.file.now (Judges c.args.target.now) _ (g.met.F.Files.sound_tells c.args.files.now files) (one-judged c.args.target.now)) (returns-in-Ok-Err-clause-sound g c files room)
+pub returns : goal.returns
+returns g c = λ out room same.
+    let by = image-judges c.args.target.now _ _ _ c.as_slice.ensures c.in_ok-image.ensures.ok in
+    let one : Written = record { name = c.args.target.now; bytes = c.in_ok-image.image.bytes } in
+    written-performs _ _ out _ room _ (comes-read c.args.file.now (Judges c.args.target.now) _ _ _ c.in_ok-text.ensures.ok by)
+    (one-more-written _ _ [] one (nothing-written _ c.in_ok-text.ensures.ok.stands) refl refl (rw c.as_slice-2.ensures at c.in_ok-write_file.ensures.writes)) same
+    (λ sound. one-of-file c.args.file.now (Judges c.args.target.now) _ (g.met.F.Files.sound_tells c.args.files.now sound) (one-judged c.args.target.now))

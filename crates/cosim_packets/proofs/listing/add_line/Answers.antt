@@ -1,5 +1,5 @@
 use Rattle.rp_packet.specs.Values.{value_of}
-use Rattle.cosim_packets.specs.ListLaws.{adds-line, spells-one, spells-judged}
+use Rattle.cosim_packets.proofs.ListLaws.{adds-line, spells-one, spells-judged}
 use Rattle.cosim_packets.proofs.ShowLaws.{on-ok}
 use Rattle.cosim_packets.proofs.listing.add_line.Goals as goal
 

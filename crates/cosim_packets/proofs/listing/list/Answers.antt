@@ -1,5 +1,5 @@
 use Rattle.std.proofs.Common.{arith}
-use Rattle.cosim_packets.specs.ListLaws.{listed-start, listed-next, listed-all, lists-until, adds-some}
+use Rattle.cosim_packets.proofs.ListLaws.{listed-start, listed-next, listed-all, lists-until, adds-some}
 use Rattle.cosim_packets.proofs.listing.list.Goals as goal
 
 pub packets-init : goal.packets-init

@@ -1,5 +1,5 @@
 use Rattle.std.proofs.Common.{length, ◌-◌}
-use Rattle.cosim_packets.specs.ListLaws.{ListedTo}
+use Rattle.cosim_packets.proofs.ListLaws.{ListedTo}
 use Rattle.cosim_packets.proofs.listing.list.Given as goal
 
 abbrev pub invariant-packets : goal.invariant-packets

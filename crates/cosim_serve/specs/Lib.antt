@@ -1,0 +1,4 @@
+pub mod Causes
+pub mod Names
+pub mod Serves
+pub mod Talks

@@ -1,0 +1,4 @@
+pub mod After
+pub mod Commands
+pub mod Performing
+pub mod Writing

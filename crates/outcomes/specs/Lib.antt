@@ -1,0 +1,4 @@
+pub mod Failures
+pub mod Seen
+pub mod Outcomes
+pub mod Steps
