@@ -1,14 +1,33 @@
 #!/bin/sh
 # Assembles the firmware of an example, runs it and shows what it prints: `examples/run.sh hello`, `dma_copy` or `echo`.
 # It ends with 1 where that isn't what the example's file says (of the echo program the closing lines alone).
-# COSIM is the program; without it, the one that is built in crates/cosim. Where none is, it is proved and built now, crates side by side.
+#
+# The program is COSIM, where that is set; else the one that a build left in crates/cosim; else dist/cosim, exactly where its manifest
+# is of these sources and of this file; else it is proved and built now. With --prove it is always proved and built.
 set -eu
 here=$(cd "$(dirname "$0")" && pwd)
-name=${1:?"usage: run.sh hello|dma_copy|echo"}
-program=${COSIM:-$here/../crates/cosim/out/cosim}
-if [ ! -x "$program" ]; then
-    echo "proving and building $program (some 25 minutes on four processors)" >&2
-    (cd "$here/.." && rt all check --jobs "$(nproc)" && cd crates/cosim && rt run) >/dev/null 2>&1 || true
+top=$here/..
+prove=no
+if [ "${1:-}" = --prove ]; then
+    prove=yes
+    shift
+fi
+name=${1:?"usage: run.sh [--prove] hello|dma_copy|echo"}
+built=$top/crates/cosim/out/cosim
+if [ $prove = yes ]; then
+    "$top/dist/build"
+    program=$built
+elif [ -n "${COSIM:-}" ]; then
+    program=$COSIM
+elif [ -x "$built" ]; then
+    program=$built
+elif "$top/dist/fits"; then
+    echo "running dist/cosim, which was built of these sources; --prove proves and builds it here" >&2
+    program=$top/dist/cosim
+else
+    echo "dist/cosim isn't of these sources: the program is proved and built now" >&2
+    "$top/dist/build"
+    program=$built
 fi
 work=$(mktemp -d)
 trap 'rm -rf "$work"' EXIT

@@ -1,0 +1,87 @@
+"""What the program stands on: its crates, the checksum of their sources, and the manifest of the program in this folder."""
+
+import hashlib
+import os
+import subprocess
+
+TOP = os.path.dirname(os.path.dirname(os.path.abspath(__file__)))
+CRATES = os.path.join(TOP, "crates")
+BUILT = os.path.join(CRATES, "cosim", "out", "cosim")
+PROGRAM = os.path.join(TOP, "dist", "cosim")
+MANIFEST = os.path.join(TOP, "dist", "manifest")
+
+
+def all_crates():
+    """Each crate of crates.txt, with those of them that it stands on."""
+    found = {}
+    with open(os.path.join(TOP, "crates.txt"), encoding="utf-8") as lines:
+        for line in lines:
+            line = line.split("#")[0].strip()
+            if line:
+                name, below = line.split(":", 1)
+                found[name.split()[0]] = below.split()
+    return {name: [crate for crate in below if crate in found] for name, below in found.items()}
+
+
+def below(name):
+    """The crates that this one stands on, and itself, lowest first."""
+    crates = all_crates()
+    order = []
+
+    def visit(crate):
+        if crate not in order:
+            for lower in crates[crate]:
+                visit(lower)
+            order.append(crate)
+
+    visit(name)
+    return {crate: crates[crate] for crate in order}
+
+
+def sources():
+    """The checksum of all that the program is proved and built of: its crates' sources with their paths, what each crate stands
+    on, and the handles that it may use."""
+    total = hashlib.sha256()
+    crates = below("cosim")
+    for name in sorted(crates):
+        total.update(f"{name}: {' '.join(crates[name])}\n".encode())
+        for part in ("proofs", "specs", "src"):
+            paths = []
+            for folder, _, files in os.walk(os.path.join(CRATES, name, part)):
+                paths += [os.path.join(folder, file) for file in files]
+            for path in sorted(paths):
+                with open(path, "rb") as file:
+                    total.update(os.path.relpath(path, TOP).encode() + b"\n" + hashlib.sha256(file.read()).digest())
+    with open(os.path.join(TOP, "HANDLES"), "rb") as handles:
+        total.update(handles.read())
+    return total.hexdigest()
+
+
+def checksum(path):
+    """The SHA-256 of a file."""
+    with open(path, "rb") as file:
+        return hashlib.sha256(file.read()).hexdigest()
+
+
+def toolchain():
+    """The line of `rt version`, or nothing where there is no rt."""
+    try:
+        told = subprocess.run(["rt", "version"], stdout=subprocess.PIPE, stderr=subprocess.DEVNULL, check=True)
+    except (OSError, subprocess.CalledProcessError):
+        return None
+    return told.stdout.decode().strip()
+
+
+def manifest():
+    """The lines of the manifest, by what they tell; nothing where it can't be read."""
+    try:
+        with open(MANIFEST, encoding="utf-8") as lines:
+            return dict(line.rstrip("\n").split(": ", 1) for line in lines)
+    except (OSError, ValueError):
+        return {}
+
+
+def is_of_these_sources():
+    """Whether the program of this folder is the one that the manifest tells of, and that is of the sources here."""
+    told = manifest()
+    return os.path.exists(PROGRAM) and told.get("program") == checksum(PROGRAM) and told.get("sources") == sources()
