@@ -8,6 +8,7 @@
 ghost use Rattle.std.specs.Prelude.{◌≡◌, ℕ, List, ◌++◌, get_or};
 ghost use Rattle.process_network.specs.Network.{Streams};
 ghost use Rattle.process_network.specs.StarTalk.{IsHubRun, IsLeafRun};
+ghost use Rattle.process_network.specs.TellingLinks.{IsTelling, IsFirstFixedHub};
 ghost use Rattle.process_network.specs.PacketStar.{HubEnd, LeafEnd, star_of, fresh_hub, fresh_leaf};
 ghost use Rattle.cosim_model.specs.declared.values.Plan.{Plan};
 ghost use Rattle.cosim_model.specs.Parts.{DeviceModel, MasterModel, IsDevice, IsMaster};
@@ -86,4 +87,14 @@ pub fn malformed_place<M: System>()
         → IsMalformedAt M.codec x start cause → IsMalformedAt M.codec x other another → (start ≡ other) × (cause ≡ another) }
     ensures lasting { (x more : List ℕ) (start : ℕ) (cause : M.Cause)
         → IsMalformedAt M.codec x start cause → IsMalformedAt M.codec (x ++ more) start cause }
+{}
+
+/// Over any links that tell what they give, honest or not, the talk of a machine end with them has a last round, and ends there.
+///
+/// So whatever its links give, a machine end comes to phase Done, to a fault, or to a wait for bytes that never come. The round is the
+/// first that gives what the next one gives.
+pub fn talk_ends<M: System>()
+    ensures { (plan : Plan) (m : M) (ports : ℕ) (said : ℕ → List ℕ → List ℕ) → IsTelling said
+        → (rounds : ℕ) × (x : Streams) × (turns : ℕ) × (h : HubEnd (MachineEnd M M.Cause)) × (sent : Streams)
+        × IsFirstFixedHub (star_of (ends M.master M.device M.codec)) ports (fresh_hub (machine_start M.Cause m ports plan) ports) said rounds x turns h sent }
 {}

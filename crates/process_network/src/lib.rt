@@ -139,7 +139,7 @@ pub fn talk_over_honest_links<H: Hub>()
 /// Over links that only tell what they give, the talk of a hub that sends a bounded number of messages has a first fixed point.
 pub fn talk_over_telling_links<H: Hub>()
     ensures { (ports : ℕ) (hub : H) (said : ℕ → List ℕ → List ℕ) → IsTelling said
-        → HubAlwaysEnds H.star ports hub → HubSendsBounded H.star
+        → HubAlwaysEnds H.star ports hub → HubSendsBounded H.star ports hub
         → (k : ℕ) × (x : Streams) × (turns : ℕ) × (h : H) × (sent : Streams)
         × IsFirstFixedHub H.star ports hub said k x turns h sent }
 {}
