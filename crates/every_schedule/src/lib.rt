@@ -54,8 +54,10 @@ pub trait System {
 /// It speaks of any plan, any master and any devices that fit, each with what its end offers, and of every list of steps.
 /// `schedules`: what was sent and called is a beginning of the traffic and the calls of the direct machine, no end has a fault, some
 /// step is effective unless all is done, and when the machine end is done everything is equal and nothing is in flight. `room`:
-/// whenever the machine end sends on a port, at most one packet of its device end isn't taken yet, of at most 208 bytes. `bounded`: how
-/// many steps can be effective. `over_links`: the machine end alone, over links that give what the device ends would send, ends done.
+/// whenever the machine end sends on a port, at most one packet of its device end isn't taken yet, one that can be written, of at most
+/// 208 bytes. `bounded`: how
+/// many steps can be effective. `over_links`: the machine end alone, over links that give what the device ends would send, ends done and
+/// has sent the traffic.
 pub fn every_schedule<M: System>()
     ensures schedules { (plan : Plan) (m : M) (xs : List (Side × M.Device))
         → Fit M.master M.device plan m xs
