@@ -316,13 +316,17 @@ module _ {M F : Type 0} (k : MasterModel M) where
   answered h b (AnswerFrom p a) = finished h p a (plain a (answer_from b))
   answered h b _ = h
 
+  abbrev pub gathered : MachineEnd M F → Bool → Phase → MachineEnd M F
+  gathered h over Gather = if_over h over
+  gathered h over _ = h
+
   abbrev pub on_event : MachineEnd M F → ℕ → PortEnd → Packet → Event → MachineEnd M F
   on_event h p q m Nothing = put_port h p q
   on_event h p q m Met = met (put_port h p q) h.phase
   on_event h p q m (Asked t) = hold_request h p q m (nat_lt q.last (time_of m.body))
   on_event h p q m Told = hold_request h p q m (nat_lt q.last (time_of m.body))
   on_event h p q m Answered = answered (put_port h p q) m.body h.phase
-  on_event h p q m SyncDone = if_over (put_port h p q) (all_on (map is_clear (set h.ports p q)))
+  on_event h p q m SyncDone = gathered (put_port h p q) (all_on (map is_clear (set h.ports p q))) h.phase
 
   abbrev pub machine_judges : MachineEnd M F → ℕ → PortEnd → Packet → Result Event SessionFault → MachineEnd M F
   machine_judges h p q m (Err f) = faulted (put_port h p q) p (end_fault.Session f)

@@ -1,5 +1,5 @@
 -- A turn only adds to the calls, and is taken only where there is no fault.
-use Rattle.std.proofs.Common.{◌≡◌, ℕ, zero, suc, Bool, true, false, ◌&&◌, List, [], ◌∷◌, ◌++◌, length, map, Option, Some, None, slice_get, Result, Ok, Err, refl, sym, ap, ◌∙◌, subst, append_assoc, append-nil}
+use Rattle.std.proofs.Common.{◌≡◌, ℕ, zero, suc, Bool, true, false, ◌&&◌, List, [], ◌∷◌, ◌++◌, length, set, map, Option, Some, None, slice_get, Result, Ok, Err, refl, sym, ap, ◌∙◌, subst, append_assoc, append-nil}
 use Rattle.std.proofs.lemmas.Option.{none-some, same_Some}
 use Rattle.std.specs.Prelude.{nat_lt}
 use Rattle.process_network.specs.Network.{IsPrefix, Streams}
@@ -9,6 +9,7 @@ use Rattle.cosim_model.specs.declared.values.Access.{Access}
 use Rattle.cosim_model.specs.declared.values.Want.{Want}
 use Rattle.cosim_model.specs.declared.values.Call.{Call}
 use Rattle.cosim_model.specs.declared.values.Bus.{Bus}
+use Rattle.cosim_model.specs.Values.{all_on}
 use Rattle.cosim_model.specs.Parts.{DeviceModel, MasterModel}
 use Rattle.cosim_model.specs.Packets.{Body, Packet, Decoded, Codec}
 use Rattle.cosim_model.specs.Packets.Body.{Read, Write, Sync}
@@ -21,7 +22,7 @@ use Rattle.cosim_model.specs.declared.session.EndFault.{EndFault}
 use Rattle.ends_model.specs.declared.ends.OpenSync.{OpenSync}
 use Rattle.ends_model.specs.DeviceTurn.{DeviceEnd, is_device_size, is_answered, told, settle, settle_by, settle_want, next_of, joined, settled, acts, answer_read, answer_write, do_posted, answered_own, device_takes, device_judges, device_looks}
 use Rattle.ends_model.specs.declared.ends.Phase.{Phase}
-use Rattle.ends_model.specs.MachineTurn.{MachineEnd, PortEnd, greeted, requested, machine_outlook, after_greet, to_meet, after_sync, is_due, first_true, is_unknown, least, held_time, machine_takes, machine_hears_at, machine_judges, on_event, hold_request, met, answered, if_over, put_port, time_of}
+use Rattle.ends_model.specs.MachineTurn.{MachineEnd, PortEnd, greeted, requested, machine_outlook, after_greet, to_meet, after_sync, is_due, first_true, is_unknown, least, held_time, machine_takes, machine_hears_at, machine_judges, on_event, hold_request, met, answered, if_over, gathered, is_clear, put_port, time_of}
 use Rattle.ends_model.specs.declared.ends.Phase.TheVariants.{Greet, Meet, Run, AnswerFrom, SyncTo, Gather, Done}
 use Rattle.ends_model.specs.World.{ends}
 use Rattle.every_schedule.proofs.Outlooks.{machine_looks, phase_outlook, greet_outlook, run_outlook, sync_outlook, unit_outlook, access_outlook, gather_outlook, serve_outlook, serve_port, serve_held, serve_packet}
@@ -141,13 +142,22 @@ module _ {M S F : Type 0} (k : MasterModel M) (d : DeviceModel S) (codec : Codec
   over_grows h true = whole h.calls
   over_grows h false = whole h.calls
 
+  gathered_grows : (h : MachineEnd M F) (b : Bool) (p : Phase) → IsPrefix h.calls (gathered k h b p).calls
+  gathered_grows h b Gather = over_grows h b
+  gathered_grows h b (Greet p) = whole h.calls
+  gathered_grows h b (Meet p) = whole h.calls
+  gathered_grows h b Run = whole h.calls
+  gathered_grows h b (AnswerFrom p a) = whole h.calls
+  gathered_grows h b (SyncTo p) = whole h.calls
+  gathered_grows h b Done = whole h.calls
+
   event_grows : (h : MachineEnd M F) (p : ℕ) (q : PortEnd) (m : Packet) (v : Event) → IsPrefix h.calls (on_event k h p q m v).calls
   event_grows h p q m Nothing = whole h.calls
   event_grows h p q m Met = met_grows (put_port k h p q) h.phase
   event_grows h p q m (Asked t) = holds_grows h p q m (nat_lt q.last (time_of m.body))
   event_grows h p q m Told = holds_grows h p q m (nat_lt q.last (time_of m.body))
   event_grows h p q m Answered = answered_grows (put_port k h p q) m.body h.phase
-  event_grows h p q m SyncDone = over_grows (put_port k h p q) _
+  event_grows h p q m SyncDone = gathered_grows (put_port k h p q) (all_on (map is_clear (set h.ports p q))) h.phase
 
   take_grows : (h : MachineEnd M F) (p : ℕ) (m : Decoded F) → IsPrefix h.calls (machine_takes k h p m).calls
   take_grows h p m = at_port (slice_get h.ports p) m

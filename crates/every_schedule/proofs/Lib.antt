@@ -41,3 +41,4 @@ pub mod Bounded
 pub mod Room
 pub mod OverLinks
 pub mod Places
+pub mod Talks

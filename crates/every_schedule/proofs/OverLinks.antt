@@ -16,12 +16,12 @@ use Rattle.ends_model.specs.DeviceTurn.{DeviceEnd}
 use Rattle.ends_model.specs.MachineTurn.{MachineEnd}
 use Rattle.ends_model.specs.World.{Side, ends, machine_start, device_start, Fit}
 use Rattle.every_schedule.specs.Mirror.{post_of}
-use Rattle.every_schedule.specs.Schedules.{IsHonest, back_at, IsMachineRun, IsDriven, DrivesWell}
+use Rattle.every_schedule.specs.Schedules.{IsHonest, bytes_out, back_at, IsMachineRun, IsDriven, DrivesWell}
 use Rattle.every_schedule.specs.Wires.{Wire}
 use Rattle.every_schedule.proofs.Headline.{hub_start, leaf_starts, run_moves, run_rests, run_ends, last, ran}
 use Rattle.every_schedule.proofs.Lists.{unmapped, get_mapped}
 use Rattle.every_schedule.proofs.OutDevice.{out_is_run}
-use Rattle.every_schedule.proofs.Schedules.{final_is_end, final_back, run_sides}
+use Rattle.every_schedule.proofs.Schedules.{final_is_end, final_out, final_back, run_sides}
 
 module _ {M S F : Type 0} (k : MasterModel M) (d : DeviceModel S) (codec : Codec F) (plan : Plan) (laws : IsDevice d) (laws' : IsMaster k) (coded : IsCodec codec) (m : M) (xs : List (Side × S)) (fit : Fit k d plan m xs) where
   abbrev H : Type 0
@@ -115,17 +115,22 @@ module _ {M S F : Type 0} (k : MasterModel M) (d : DeviceModel S) (codec : Codec
   traffic_is : (p : ℕ) → (traffic_at (calm_all (star_of e) (calm_start hub0 leaves0) (run_moves k d codec plan laws laws' coded m xs fit)).traffic p).1 ≡ back_at k d codec plan m xs p (slice_get xs p)
   traffic_is p = ap (λ (c : Calm H L). (traffic_at c.traffic p).1) ended ∙ back_is p
 
-  is_driven : (h : H) → h ≡ (calm_all (star_of e) (calm_start hub0 leaves0) (run_moves k d codec plan laws laws' coded m xs fit)).hub → IsDriven k d codec plan m xs h
-  is_driven h f =
+  out_is : (p : ℕ) (x : Side × S) → slice_get xs p ≡ Some x → (traffic_at (calm_all (star_of e) (calm_start hub0 leaves0) (run_moves k d codec plan laws laws' coded m xs fit)).traffic p).0 ≡ bytes_out k d codec plan m xs p x
+  out_is p x g = ap (λ (c : Calm H L). (traffic_at c.traffic p).0) ended ∙ final_out k d codec plan laws laws' coded m xs fit p x g
+
+  is_driven : (h : H) (sent : Streams) → h ≡ (calm_all (star_of e) (calm_start hub0 leaves0) (run_moves k d codec plan laws laws' coded m xs fit)).hub → ((p : ℕ) → sent p ≡ (traffic_at (calm_all (star_of e) (calm_start hub0 leaves0) (run_moves k d codec plan laws laws' coded m xs fit)).traffic p).0) → IsDriven k d codec plan m xs h sent
+  is_driven h sent f o =
       let there = final_is_end k d codec plan laws laws' coded m xs fit in
       let same : h ≡ final.hub = f ∙ ap (λ (c : Calm H L). c.hub) ended in
-      subst (IsDriven k d codec plan m xs) (sym same) (record { phase = there.phase; sound = refl; master = there.master; calls = there.calls; tick = there.tick })
+      subst (λ (h : H). IsDriven k d codec plan m xs h sent) (sym same) (record { phase = there.phase; sound = refl; master = there.master; calls = there.calls; tick = there.tick; out = λ p x g. o p ∙ out_is p x g })
 
   pub over_links : DrivesWell k d codec plan m xs
   over_links said honest = record {
     within = λ x turns h sent inside run p. subst (IsPrefix (said p (sent p))) (traffic_is p) (link_gives (star_of e) steady hub0 leaves0 (run_moves k d codec plan laws laws' coded m xs fit) (run_rests k d codec plan laws laws' coded m xs fit) said (honest_is said honest) x turns h sent (λ q. subst (IsPrefix (x q)) (sym (traffic_is q)) (inside q)) (run_is x turns h sent run) p);
-    driven = λ x turns h sent inside given run stop. is_driven h (driven (star_of e) steady hub0 leaves0 (run_moves k d codec plan laws laws' coded m xs fit) (run_rests k d codec plan laws laws' coded m xs fit) said (honest_is said honest) x turns h sent (λ q. subst (IsPrefix (x q)) (sym (traffic_is q)) (inside q)) given (run_is x turns h sent run) stop);
+    driven = λ x turns h sent inside given run stop.
+        let r = driven (star_of e) steady hub0 leaves0 (run_moves k d codec plan laws laws' coded m xs fit) (run_rests k d codec plan laws laws' coded m xs fit) said (honest_is said honest) x turns h sent (λ q. subst (IsPrefix (x q)) (sym (traffic_is q)) (inside q)) given (run_is x turns h sent run) stop in
+        is_driven h sent r.0 r.1;
     talk = λ rounds x talk turns h sent run stop fixed.
         let r = talk_ends (star_of e) steady hub0 leaves0 (run_moves k d codec plan laws laws' coded m xs fit) (run_rests k d codec plan laws laws' coded m xs fit) said (honest_is said honest) rounds x (talk_is said rounds x talk) turns h sent (run_is x turns h sent run) stop fixed in
-        (is_driven h r.0, λ p. r.1 p ∙ traffic_is p);
+        (is_driven h sent r.0 r.1, λ p. r.2 p ∙ traffic_is p);
   }

@@ -12,6 +12,7 @@ use Rattle.cosim_model.specs.declared.values.Access.{Access}
 use Rattle.cosim_model.specs.declared.values.Plan.{Plan}
 use Rattle.cosim_model.specs.declared.values.Want.{Want}
 use Rattle.cosim_model.specs.declared.values.Bus.{Bus}
+use Rattle.cosim_model.specs.Values.{all_on}
 use Rattle.cosim_model.specs.Parts.{DeviceModel, MasterModel}
 use Rattle.cosim_model.specs.Packets.{Body, Packet, Decoded, Codec}
 use Rattle.cosim_model.specs.Packets.Body.{Read, Write, Sync}
@@ -27,7 +28,7 @@ use Rattle.ends_model.specs.declared.ends.OpenSync.{OpenSync}
 use Rattle.ends_model.specs.declared.ends.Phase.{Phase}
 use Rattle.ends_model.specs.declared.ends.Phase.TheVariants.{Greet, Meet, Run, AnswerFrom, SyncTo, Gather, Done}
 use Rattle.ends_model.specs.DeviceTurn.{DeviceEnd, is_device_size, is_answered, told, settle, settle_by, settle_want, next_of, joined, acts, answer_read, answer_write, do_posted, answered_own, device_takes, device_judges, device_looks}
-use Rattle.ends_model.specs.MachineTurn.{MachineEnd, PortEnd, greeted, requested, after_greet, to_meet, after_sync, is_due, first_true, is_unknown, least, held_time, machine_takes, machine_hears_at, machine_judges, on_event, hold_request, met, answered, if_over, put_port, time_of, waits_at}
+use Rattle.ends_model.specs.MachineTurn.{MachineEnd, PortEnd, greeted, requested, after_greet, to_meet, after_sync, is_due, first_true, is_unknown, least, held_time, machine_takes, machine_hears_at, machine_judges, on_event, hold_request, met, answered, if_over, gathered, is_clear, put_port, time_of, waits_at}
 use Rattle.ends_model.specs.World.{Side, ends, device_start, machine_start}
 use Rattle.process_network.proofs.HubHalted.{none_past}
 use Rattle.every_schedule.specs.Places.{cause_at}
@@ -233,13 +234,22 @@ module _ {M S F : Type 0} (k : MasterModel M) (d : DeviceModel S) (codec : Codec
   over_took h h' true same ok = (same, no_cause h' ok)
   over_took h h' false same ok = (same, no_cause h' ok)
 
+  gathered_took : (h h' : H) (b : Bool) (p : Phase) → length h'.ports ≡ length h.ports → h'.fault ≡ None → Took h (gathered k h' b p)
+  gathered_took h h' b Gather same ok = over_took h h' b same ok
+  gathered_took h h' b (Greet p) same ok = (same, no_cause h' ok)
+  gathered_took h h' b (Meet p) same ok = (same, no_cause h' ok)
+  gathered_took h h' b Run same ok = (same, no_cause h' ok)
+  gathered_took h h' b (AnswerFrom p a) same ok = (same, no_cause h' ok)
+  gathered_took h h' b (SyncTo p) same ok = (same, no_cause h' ok)
+  gathered_took h h' b Done same ok = (same, no_cause h' ok)
+
   event_took : (h : H) (p : ℕ) (q : PortEnd) (m : Packet) (v : Event) → h.fault ≡ None → Took h (on_event k h p q m v)
   event_took h p q m Nothing ok = (length-set h.ports p q, no_cause h ok)
   event_took h p q m Met ok = met_took h (put_port k h p q) h.phase (length-set h.ports p q) ok
   event_took h p q m (Asked t) ok = holds_took h p q m (nat_lt q.last (time_of m.body)) ok
   event_took h p q m Told ok = holds_took h p q m (nat_lt q.last (time_of m.body)) ok
   event_took h p q m Answered ok = answered_took h (put_port k h p q) m.body h.phase (length-set h.ports p q) ok
-  event_took h p q m SyncDone ok = over_took h (put_port k h p q) _ (length-set h.ports p q) ok
+  event_took h p q m SyncDone ok = gathered_took h (put_port k h p q) (all_on (map is_clear (set h.ports p q))) h.phase (length-set h.ports p q) ok
 
   judges_took : (h : H) (p : ℕ) (q : PortEnd) (m : Packet) (r : Result Event SessionFault) → h.fault ≡ None → Took h (machine_judges k h p q m r)
   judges_took h p q m (Err f) ok = (length-set h.ports p q, λ i. clear i (nat_eq p i))

@@ -22,7 +22,7 @@ use Rattle.cosim_model.specs.Packets.Decoded.{Valid}
 use Rattle.ends_model.specs.DeviceTurn.{DeviceEnd}
 use Rattle.ends_model.specs.MachineTurn.{MachineEnd, machine_outlook}
 use Rattle.ends_model.specs.World.{Side, ends, machine_start, Fit, world}
-use Rattle.every_schedule.specs.Schedules.{untaken, HasRoom}
+use Rattle.every_schedule.specs.Schedules.{untaken, IsOneAtMost, HasRoom}
 use Rattle.every_schedule.proofs.Bounded.{nothing_first}
 use Rattle.every_schedule.proofs.Greeting.{leaves_of}
 use Rattle.every_schedule.proofs.Headline.{IsSound, hub_start, leaf_starts, begins, run_moves, run_posts, good_moves, run_rests, run_gentle, all_holds}
@@ -150,7 +150,7 @@ module _ {M S F : Type 0} (k : MasterModel M) (d : DeviceModel S) (codec : Codec
     w = world k d codec plan m xs ss
 
     abbrev Goal : Type 0
-    Goal = (untaken k d codec plan m xs w p ≡ []) ⊎ ((x : Packet) × IsPrefix (untaken k d codec plan m xs w p) (codec.write x) × (length (codec.write x) ≤ 208))
+    Goal = IsOneAtMost k d codec plan m xs (untaken k d codec plan m xs w p)
 
     -- where the machine end is as far on the run, and sends there
     module _ (before rest : List Move) (f : before ++ HubMoves ∷ rest ≡ ms) (same : (calm before).hub ≡ w.hub) (out : (q : ℕ) → (traffic_at (calm before).traffic q).0 ≡ (link w q).out) where
@@ -167,15 +167,15 @@ module _ {M S F : Type 0} (k : MasterModel M) (d : DeviceModel S) (codec : Codec
       sees stop = subst (λ (c : Calm H L). IsPrefix (link w p).back (traffic_at c.traffic p).1) is
           (hub_sees (star_of e) steady hub0 leaves0 ms (run_rests k d codec plan laws laws' coded m xs fit) ss before out p (ap (λ c. calm_leaf_turn (star_of e) c p) is ∙ stop))
 
-      short : (x : Packet) → IsSound {F = F} (Valid x) → body_size x.body ≤ 208 → length (codec.write x) ≤ 208
-      short x s l =
-          let same_x : x ≡ s.0 = ap packet_of s.1 in
-          let z = coded.sizes x (subst IsWritable (sym same_x) s.2) in
-          omega arith
+      writable : (x : Packet) → IsSound {F = F} (Valid x) → IsWritable x
+      writable x s = let same_x : x ≡ s.0 = ap packet_of s.1 in subst IsWritable (sym same_x) s.2
         where
           packet_of : Decoded F → Packet
           packet_of (Valid y) = y
           packet_of _ = x
+
+      short : (x : Packet) → IsSound {F = F} (Valid x) → body_size x.body ≤ 208 → length (codec.write x) ≤ 208
+      short x s l = let z = coded.sizes x (writable x s) in omega arith
 
       at_link : (o : Option Q) → slice_get c.links p ≡ o → FewAt o → Goal
       at_link None g few =
@@ -226,6 +226,7 @@ module _ {M S F : Type 0} (k : MasterModel M) (d : DeviceModel S) (codec : Codec
                   cons_nil z = cc
           at_most (inr x) r = inr (
             x.0,
+            writable x.0 (sound x.0 x.1),
             subst (IsPrefix (untaken k d codec plan m xs w p)) (ap (written e.write) x.1 ∙ append-nil (codec.write x.0)) r,
             short x.0 (sound x.0 x.1) x.2,
           )
@@ -269,7 +270,7 @@ module _ {M S F : Type 0} (k : MasterModel M) (d : DeviceModel S) (codec : Codec
           some_none _ ((star_of e).hub_turn (calm ms).hub x) (run_rests k d codec plan laws laws' coded m xs fit).hub
           (ap (λ (h : H). (star_of e).hub_turn h x) same ∙ ap (hub_turn_by e (world k d codec plan m xs ss).hub x) acts.2)
 
-      found : NextHub occurs.1 → (untaken k d codec plan m xs (world k d codec plan m xs ss) p ≡ []) ⊎ ((x : Packet) × IsPrefix (untaken k d codec plan m xs (world k d codec plan m xs ss) p) (codec.write x) × (length (codec.write x) ≤ 208))
+      found : NextHub occurs.1 → IsOneAtMost k d codec plan m xs (untaken k d codec plan m xs (world k d codec plan m xs ss) p)
       found (inl a) = absurd (no_end a)
       found (inr r) = at_link ss p (occurs.0 ++ r.0) r.1 f same out (slice_get there.links p) refl few
         where

@@ -7,7 +7,7 @@ use Rattle.process_network.specs.PacketStar.{HubEnd, LeafEnd, star_of, fresh_hub
 use Rattle.ends_model.specs.declared.ends.Phase.TheVariants.{Done}
 use Rattle.cosim_model.specs.declared.values.Plan.{Plan}
 use Rattle.cosim_model.specs.Parts.{DeviceModel, MasterModel}
-use Rattle.cosim_model.specs.Packets.{Packet, Codec}
+use Rattle.cosim_model.specs.Packets.{Packet, Codec, IsWritable}
 use Rattle.ends_model.specs.DeviceTurn.{DeviceEnd}
 use Rattle.ends_model.specs.MachineTurn.{MachineEnd}
 use Rattle.cosim_model.specs.Direct.{Direct, direct}
@@ -94,15 +94,20 @@ module _ {M S F : Type 0} (k : MasterModel M) (d : DeviceModel S) (codec : Codec
   IsBounded = (ss : List StarStep) → star_effective_steps (star_of (ends k d codec)) (start k d codec plan m xs) ss ≤ most_steps
 
   -- When the machine end is about to send on a port, what the device end of that port has sent and the machine end has not taken is
-  -- no more than one packet of at most 208 bytes.
+  -- no more than one packet that can be written, of at most 208 bytes.
 
   abbrev pub untaken : StarWorld (HubEnd (MachineEnd M F)) (LeafEnd (DeviceEnd S F)) → ℕ → List ℕ
   untaken w p = drop (get_or w.hub.taken p 0) (link w p).back
 
+  abbrev pub IsOneAtMost : List ℕ → Type 0
+  IsOneAtMost bytes =
+      (bytes ≡ []) ⊎ ((x : Packet) × IsWritable x × IsPrefix bytes (codec.write x) × (length (codec.write x) ≤ 208))
+
   abbrev pub HasRoom : Type 0
   HasRoom = (ss : List StarStep) (next : HubEnd (MachineEnd M F)) (p : ℕ) (bytes : List ℕ)
-      → (star_of (ends k d codec)).hub_turn (world k d codec plan m xs ss).hub (hub_received (world k d codec plan m xs ss)) ≡ Some (next, Some (p, bytes))
-      → (untaken (world k d codec plan m xs ss) p ≡ []) ⊎ ((x : Packet) × IsPrefix (untaken (world k d codec plan m xs ss) p) (codec.write x) × (length (codec.write x) ≤ 208))
+      → (star_of (ends k d codec)).hub_turn (world k d codec plan m xs ss).hub (hub_received (world k d codec plan m xs ss))
+      ≡ Some (next, Some (p, bytes))
+      → IsOneAtMost (untaken (world k d codec plan m xs ss) p)
 
   -- The machine end alone, over links. `said p y` is all that the link of port p gives for sent bytes y.
 
@@ -124,13 +129,14 @@ module _ {M S F : Type 0} (k : MasterModel M) (d : DeviceModel S) (codec : Codec
   abbrev pub IsMachineRun : Streams → ℕ → HubEnd (MachineEnd M F) → Streams → Type 0
   IsMachineRun x turns h sent = IsHubRun (star_of (ends k d codec)) (length xs) (fresh_hub (machine_start F m (length xs) plan) (length xs)) x turns h sent
 
-  -- The machine end is done, as the direct machine is.
-  pub record IsDriven (h : HubEnd (MachineEnd M F)) : Type 0 where
+  -- The machine end is done, as the direct machine is, and has sent the traffic.
+  pub record IsDriven (h : HubEnd (MachineEnd M F)) (sent : Streams) : Type 0 where
     pub phase : h.core.phase ≡ Done
     pub sound : h.core.fault ≡ None
     pub master : h.core.master ≡ directly.master
     pub calls : h.core.calls ≡ directly.calls
     pub tick : h.core.tick ≡ directly.tick
+    pub out : (p : ℕ) (x : Side × S) → slice_get xs p ≡ Some x → sent p ≡ bytes_out p x
 
   pub record IsOverLinks (said : ℕ → List ℕ → List ℕ) : Type 0 where
     -- whatever it has received so far, its links give no more than the traffic
@@ -139,12 +145,12 @@ module _ {M S F : Type 0} (k : MasterModel M) (d : DeviceModel S) (codec : Codec
     -- where all that they give moves it no further it is done
     pub driven : (x : Streams) (turns : ℕ) (h : HubEnd (MachineEnd M F)) (sent : Streams) → IsWithin x
         → ((p : ℕ) → IsPrefix (x p) (said p (sent p))) → IsMachineRun x turns h sent
-        → (star_of (ends k d codec)).hub_turn h (λ p. said p (sent p)) ≡ None → IsDriven h
+        → (star_of (ends k d codec)).hub_turn h (λ p. said p (sent p)) ≡ None → IsDriven h sent
     -- its talk with them has its fixed point there
     pub talk : (rounds : ℕ) (x : Streams)
         → StarTalk (star_of (ends k d codec)) (length xs) (fresh_hub (machine_start F m (length xs) plan) (length xs)) said rounds x
         → (turns : ℕ) (h : HubEnd (MachineEnd M F)) (sent : Streams) → IsMachineRun x turns h sent
-        → (star_of (ends k d codec)).hub_turn h x ≡ None → ((p : ℕ) → x p ≡ said p (sent p)) → IsDriven h
+        → (star_of (ends k d codec)).hub_turn h x ≡ None → ((p : ℕ) → x p ≡ said p (sent p)) → IsDriven h sent
         × ((p : ℕ) → x p ≡ back_at p (slice_get xs p))
 
   abbrev pub DrivesWell : Type 0

@@ -8,6 +8,7 @@
 ghost use Rattle.std.specs.Prelude.{◌≡◌, ℕ, List, ◌++◌, get_or};
 ghost use Rattle.process_network.specs.Network.{Streams};
 ghost use Rattle.process_network.specs.StarTalk.{IsHubRun, IsLeafRun};
+ghost use Rattle.process_network.specs.TellingLinks.{IsTelling, IsFirstFixedHub};
 ghost use Rattle.process_network.specs.PacketStar.{HubEnd, LeafEnd, star_of, fresh_hub, fresh_leaf};
 ghost use Rattle.cosim_model.specs.declared.values.Plan.{Plan};
 ghost use Rattle.cosim_model.specs.Parts.{DeviceModel, MasterModel, IsDevice, IsMaster};
@@ -53,8 +54,10 @@ pub trait System {
 /// It speaks of any plan, any master and any devices that fit, each with what its end offers, and of every list of steps.
 /// `schedules`: what was sent and called is a beginning of the traffic and the calls of the direct machine, no end has a fault, some
 /// step is effective unless all is done, and when the machine end is done everything is equal and nothing is in flight. `room`:
-/// whenever the machine end sends on a port, at most one packet of its device end isn't taken yet, of at most 208 bytes. `bounded`: how
-/// many steps can be effective. `over_links`: the machine end alone, over links that give what the device ends would send, ends done.
+/// whenever the machine end sends on a port, at most one packet of its device end isn't taken yet, one that can be written, of at most
+/// 208 bytes. `bounded`: how
+/// many steps can be effective. `over_links`: the machine end alone, over links that give what the device ends would send, ends done and
+/// has sent the traffic.
 pub fn every_schedule<M: System>()
     ensures schedules { (plan : Plan) (m : M) (xs : List (Side × M.Device))
         → Fit M.master M.device plan m xs
@@ -86,4 +89,14 @@ pub fn malformed_place<M: System>()
         → IsMalformedAt M.codec x start cause → IsMalformedAt M.codec x other another → (start ≡ other) × (cause ≡ another) }
     ensures lasting { (x more : List ℕ) (start : ℕ) (cause : M.Cause)
         → IsMalformedAt M.codec x start cause → IsMalformedAt M.codec (x ++ more) start cause }
+{}
+
+/// Over any links that tell what they give, honest or not, the talk of a machine end with them has a last round, and ends there.
+///
+/// So whatever its links give, a machine end comes to phase Done, to a fault, or to a wait for bytes that never come. The round is the
+/// first that gives what the next one gives.
+pub fn talk_ends<M: System>()
+    ensures { (plan : Plan) (m : M) (ports : ℕ) (said : ℕ → List ℕ → List ℕ) → IsTelling said
+        → (rounds : ℕ) × (x : Streams) × (turns : ℕ) × (h : HubEnd (MachineEnd M M.Cause)) × (sent : Streams)
+        × IsFirstFixedHub (star_of (ends M.master M.device M.codec)) ports (fresh_hub (machine_start M.Cause m ports plan) ports) said rounds x turns h sent }
 {}

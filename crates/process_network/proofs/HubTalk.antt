@@ -6,7 +6,7 @@ use Rattle.process_network.specs.Star.{Star, IsStarMonotone, to_leaf}
 use Rattle.process_network.specs.CalmRun.{one_if_some}
 use Rattle.process_network.specs.StarTalk.{IsHubRun, StarTalk}
 use Rattle.process_network.specs.TellingLinks.{IsTelling, AlwaysEnds, SendsBounded, by_port, hub_alone, HubAlwaysEnds, HubTurnsBounded, HubSendsBounded, IsFirstFixedHub, HubWorkBounded}
-use Rattle.process_network.specs.PacketStar.{HubOutlook, Ends, HubEnd, star_of, hub_after_take, hub_turn_by}
+use Rattle.process_network.specs.PacketStar.{HubOutlook, Ends, HubEnd, star_of, fresh_hub, hub_after_take, hub_turn_by}
 use Rattle.process_network.specs.PacketStar.HubOutlook.{HubActs, HubWaits, HubHalts}
 use Rattle.process_network.proofs.StarView.{to_leaf_other}
 use Rattle.process_network.proofs.TellingTalk.{telling_talk_ends}
@@ -54,15 +54,15 @@ module _ {H L : Type 0} (star : Star H L) (n : ℕ) (hub : H) where
   past_ports None j l = refl
   past_ports (Some m) j l = to_leaf_other n m (suc j) (λ i e. (omega arith))
 
-  alone_bounded : HubSendsBounded star → SendsBounded (hub_alone star n hub) 0 n
+  alone_bounded : HubSendsBounded star n hub → SendsBounded (hub_alone star n hub) 0 n
   alone_bounded bounded = record { left = bounded.left; lowers = lowers; few = few }
     where
       falls : (s : H) (r : H × Streams) (m : Option (ℕ × List ℕ)) → ((j : ℕ) → r.1 j ≡ to_leaf n m (suc j)) → bounded.left r.0 + one_if_some m ≤ bounded.left s → (bounded.left r.0 < bounded.left s) ⊎ ((bounded.left r.0 ≤ bounded.left s) × ((j : ℕ) → r.1 j ≡ []))
       falls s r None e l = inr ((omega arith), λ j. e j)
       falls s r (Some m) e l = inl (omega arith)
 
-      lowers : (s : H) (x : Streams) (r : H × Streams) → by_port n (star.hub_turn s x) ≡ Some r → (bounded.left r.0 < bounded.left s) ⊎ ((bounded.left r.0 ≤ bounded.left s) × ((j : ℕ) → r.1 j ≡ []))
-      lowers s x r e = let t = turn_is (star.hub_turn s x) r.0 r.1 e in falls s r t.0 t.2 (bounded.lowers s x (r.0, t.0) t.1)
+      lowers : (x : Streams) (k : ℕ) (s : H) (o : Streams) → IsRun (hub_alone star n hub) 0 x k s o → (r : H × Streams) → by_port n (star.hub_turn s x) ≡ Some r → (bounded.left r.0 < bounded.left s) ⊎ ((bounded.left r.0 ≤ bounded.left s) × ((j : ℕ) → r.1 j ≡ []))
+      lowers x k s o run r e = let t = turn_is (star.hub_turn s x) r.0 r.1 e in falls s r t.0 t.2 (bounded.lowers x k s o (alone_run x k s o run) (r.0, t.0) t.1)
 
       few : (s : H) (x : Streams) (r : H × Streams) → by_port n (star.hub_turn s x) ≡ Some r → (j : ℕ) → n ≤ j → r.1 j ≡ []
       few s x r e j l = let t = turn_is (star.hub_turn s x) r.0 r.1 e in t.2 j ∙ past_ports t.0 j l
@@ -71,7 +71,7 @@ module _ {H L : Type 0} (star : Star H L) (n : ℕ) (hub : H) where
   alone_ends ends x = let r = ends x in (r.0, r.1, r.2, (run_alone x r.0 r.1 r.2 r.3, ap (by_port n) r.4))
 
   -- A hub that sends a bounded number of messages comes to a first fixed point of its talk, over links that only tell.
-  pub hub_talk_ends : IsStarMonotone star → (said : ℕ → List ℕ → List ℕ) → IsTelling said → HubAlwaysEnds star n hub → HubSendsBounded star → (k : ℕ) × (x : Streams) × (turns : ℕ) × (h : H) × (o : Streams) × IsFirstFixedHub star n hub said k x turns h o
+  pub hub_talk_ends : IsStarMonotone star → (said : ℕ → List ℕ → List ℕ) → IsTelling said → HubAlwaysEnds star n hub → HubSendsBounded star n hub → (k : ℕ) × (x : Streams) × (turns : ℕ) × (h : H) × (o : Streams) × IsFirstFixedHub star n hub said k x turns h o
   hub_talk_ends monotone said telling ends bounded =
       let r = telling_talk_ends (hub_alone star n hub) (alone_monotone monotone) 0 said telling (alone_ends ends) n (alone_bounded bounded) in (
         r.0,
@@ -89,7 +89,7 @@ module _ {H L : Type 0} (star : Star H L) (n : ℕ) (hub : H) where
       )
 
   -- A hub that takes a bounded number of turns comes to the end of them, and sends a bounded number of messages.
-  pub turns_end : HubTurnsBounded star → HubAlwaysEnds star n hub
+  pub turns_end : HubTurnsBounded star n hub → HubAlwaysEnds star n hub
   turns_end bounded x = go (bounded.left hub) 0 hub (λ p. []) (refl, λ p. refl) (omega arith)
     where
       go : (d k : ℕ) (h : H) (o : Streams) → IsHubRun star n hub x k h o → bounded.left h ≤ d → (k : ℕ) × (h : H) × (o : Streams) × IsHubRun star n hub x k h o × (star.hub_turn h x ≡ None)
@@ -97,29 +97,35 @@ module _ {H L : Type 0} (star : Star H L) (n : ℕ) (hub : H) where
         where
           at : (r : Option (H × Option (ℕ × List ℕ))) → star.hub_turn h x ≡ r → (k : ℕ) × (h : H) × (o : Streams) × IsHubRun star n hub x k h o × (star.hub_turn h x ≡ None)
           at None e = (k, h, o, run, e)
-          at (Some r) e = absurd (let f = bounded.lowers h x r e in omega arith)
-      go (suc d) k h o run l = at (star.hub_turn h x) refl (λ r e. go d (suc k) r.0 (λ p. o p ++ to_leaf n r.1 (suc p)) (h, o, r.1, run, e, λ p. refl) (let f = bounded.lowers h x r e in omega arith))
+          at (Some r) e = absurd (let f = bounded.lowers x k h o run r e in omega arith)
+      go (suc d) k h o run l = at (star.hub_turn h x) refl (λ r e. go d (suc k) r.0 (λ p. o p ++ to_leaf n r.1 (suc p)) (h, o, r.1, run, e, λ p. refl) (let f = bounded.lowers x k h o run r e in omega arith))
         where
           at : (r : Option (H × Option (ℕ × List ℕ))) → star.hub_turn h x ≡ r → ((r : H × Option (ℕ × List ℕ)) → star.hub_turn h x ≡ Some r → (k : ℕ) × (h : H) × (o : Streams) × IsHubRun star n hub x k h o × (star.hub_turn h x ≡ None)) → (k : ℕ) × (h : H) × (o : Streams) × IsHubRun star n hub x k h o × (star.hub_turn h x ≡ None)
           at None e next = (k, h, o, run, e)
           at (Some r) e next = next r e
 
-  pub turns_send : HubTurnsBounded star → HubSendsBounded star
-  turns_send bounded = record { left = bounded.left; lowers = λ h x r e. let f = bounded.lowers h x r e in let l = one_at_most r.1 in omega arith }
+  pub turns_send : HubTurnsBounded star n hub → HubSendsBounded star n hub
+  turns_send bounded = record { left = bounded.left; lowers = λ x k h o run r e. let f = bounded.lowers x k h o run r e in let l = one_at_most r.1 in omega arith }
     where
       one_at_most : (m : Option (ℕ × List ℕ)) → one_if_some m ≤ 1
       one_at_most None = omega arith
       one_at_most (Some m) = omega arith
 
 -- A hub of packets whose work is bounded takes a bounded number of turns.
-pub packet_turns_bounded : {H L P : Type 0} (e : Ends H L P) → HubWorkBounded e → HubTurnsBounded (star_of e)
-packet_turns_bounded {H} {L} {P} e bounded = record { left = λ s. bounded.left s.core; lowers = λ s x r t. turn s x (e.hub_outlook s.core) refl r t }
+pub packet_turns_bounded : {H L P : Type 0} (e : Ends H L P) (n : ℕ) (hub : H) → HubWorkBounded e n hub → HubTurnsBounded (star_of e) n (fresh_hub hub n)
+packet_turns_bounded {H} {L} {P} e n hub bounded = record { left = λ s. bounded.left s.core; lowers = λ x k s o run r t. turn x k s o run (e.hub_outlook s.core) refl r t }
   where
-    take : (s : HubEnd H) (p : ℕ) (o : Option (P × ℕ)) → e.hub_outlook s.core ≡ HubWaits p → (r : HubEnd H × Option (ℕ × List ℕ)) → hub_after_take e s p o ≡ Some r → bounded.left r.0.core < bounded.left s.core
-    take s p None w r t = absurd (none-some {A = HubEnd H × Option (ℕ × List ℕ)} r t)
-    take s p (Some m) w r t = subst (λ (v : HubEnd H × Option (ℕ × List ℕ)). bounded.left v.0.core < bounded.left s.core) (same_Some {A = HubEnd H × Option (ℕ × List ℕ)} _ r t) (bounded.takes s.core p m.0 w)
+    take : (x : Streams) (k : ℕ) (s : HubEnd H) (o : Streams) → IsHubRun (star_of e) n (fresh_hub hub n) x k s o → (p : ℕ) (m : Option (P × ℕ)) → e.hub_outlook s.core ≡ HubWaits p → (r : HubEnd H × Option (ℕ × List ℕ)) → hub_after_take e s p m ≡ Some r → bounded.left r.0.core < bounded.left s.core
+    take x k s o run p None w r t = absurd (none-some {A = HubEnd H × Option (ℕ × List ℕ)} r t)
+    take x k s o run p (Some m) w r t = subst (λ (v : HubEnd H × Option (ℕ × List ℕ)). bounded.left v.0.core < bounded.left s.core) (same_Some {A = HubEnd H × Option (ℕ × List ℕ)} _ r t) (bounded.takes x k s o run p m.0 w)
 
-    turn : (s : HubEnd H) (x : Streams) (v : HubOutlook H P) → e.hub_outlook s.core ≡ v → (r : HubEnd H × Option (ℕ × List ℕ)) → hub_turn_by e s x v ≡ Some r → bounded.left r.0.core < bounded.left s.core
-    turn s x (HubActs next sends) w r t = subst (λ (v : HubEnd H × Option (ℕ × List ℕ)). bounded.left v.0.core < bounded.left s.core) (same_Some {A = HubEnd H × Option (ℕ × List ℕ)} _ r t) (bounded.acts s.core next sends w)
-    turn s x (HubWaits p) w r t = take s p (e.first (drop (get_or s.taken p 0) (x p))) w r t
-    turn s x HubHalts w r t = absurd (none-some {A = HubEnd H × Option (ℕ × List ℕ)} r t)
+    turn : (x : Streams) (k : ℕ) (s : HubEnd H) (o : Streams) → IsHubRun (star_of e) n (fresh_hub hub n) x k s o → (v : HubOutlook H P) → e.hub_outlook s.core ≡ v → (r : HubEnd H × Option (ℕ × List ℕ)) → hub_turn_by e s x v ≡ Some r → bounded.left r.0.core < bounded.left s.core
+    turn x k s o run (HubActs next sends) w r t = subst (λ (v : HubEnd H × Option (ℕ × List ℕ)). bounded.left v.0.core < bounded.left s.core) (same_Some {A = HubEnd H × Option (ℕ × List ℕ)} _ r t) (bounded.acts x k s o run next sends w)
+    turn x k s o run (HubWaits p) w r t = take x k s o run p (e.first (drop (get_or s.taken p 0) (x p))) w r t
+    turn x k s o run HubHalts w r t = absurd (none-some {A = HubEnd H × Option (ℕ × List ℕ)} r t)
+
+-- Its talk over links that only tell has a first fixed point.
+pub packet_talk_ends : {H L P : Type 0} (e : Ends H L P) (n : ℕ) (hub : H) → IsStarMonotone (star_of e) → HubWorkBounded e n hub → (said : ℕ → List ℕ → List ℕ) → IsTelling said → (k : ℕ) × (x : Streams) × (turns : ℕ) × (h : HubEnd H) × (o : Streams) × IsFirstFixedHub (star_of e) n (fresh_hub hub n) said k x turns h o
+packet_talk_ends e n hub monotone bounded said telling =
+    let turns = packet_turns_bounded e n hub bounded in
+    hub_talk_ends (star_of e) n (fresh_hub hub n) monotone said telling (turns_end (star_of e) n (fresh_hub hub n) turns) (turns_send (star_of e) n (fresh_hub hub n) turns)

@@ -86,6 +86,9 @@ module _ {H L : Type 0} (star : Star H L) (monotone : IsStarMonotone star) (hub 
   back_is : (p : ℕ) → (after_all net (start net) script).sent (suc p) 0 ≡ (traffic_at final.traffic p).1
   back_is p = ap (λ (v : World (StarNode H L)). v.sent (suc p) 0) (sym ends) ∙ ap (λ (l : Link). l.back) (link_calm final p)
 
+  out_is : (p : ℕ) → (after_all net (start net) script).sent 0 (suc p) ≡ (traffic_at final.traffic p).0
+  out_is p = ap (λ (v : World (StarNode H L)). v.sent 0 (suc p)) (sym ends) ∙ ap (λ (l : Link). l.out) (link_calm final p)
+
   no_self : (after_all net (start net) script).sent 0 0 ≡ []
   no_self = is_star.self
 
@@ -108,10 +111,11 @@ module _ {H L : Type 0} (star : Star H L) (monotone : IsStarMonotone star) (hub 
       (final_closed net (after_all net (start net) script) (turns net script) (script_final net (star_monotone star monotone hub leaves) script quiescent))
       (shift x) k (Hub h) (shift o) (below_net x b) (hub_runs_net star hub leaves x k h o run) (suc p))
 
-  -- A hub that no more of what its links give would move is where it ends in the calm run.
-  pub driven : (x : Streams) (k : ℕ) (h : H) (o : Streams) → ((p : ℕ) → IsPrefix (x p) (traffic_at final.traffic p).1) → ((p : ℕ) → IsPrefix (x p) (said p (o p))) → IsHubRun star (length leaves) hub x k h o → star.hub_turn h (λ p. said p (o p)) ≡ None → h ≡ final.hub
-  driven x k h o b hub_received run stop = same_state h
-      (drive_same net (star_monotone star monotone hub leaves) script quiescent 0 (shift_said said) (honest_net star hub leaves said honest) is_star (shift x) k (Hub h) (shift o) (below_net x b) (shift_received x o hub_received) (hub_runs_net star hub leaves x k h o run) (ap (hub_result (length leaves)) stop)).0
+  -- A hub that no more of what its links give would move is where it ends in the calm run, and has sent what it sends there.
+  pub driven : (x : Streams) (k : ℕ) (h : H) (o : Streams) → ((p : ℕ) → IsPrefix (x p) (traffic_at final.traffic p).1) → ((p : ℕ) → IsPrefix (x p) (said p (o p))) → IsHubRun star (length leaves) hub x k h o → star.hub_turn h (λ p. said p (o p)) ≡ None → (h ≡ final.hub) × ((p : ℕ) → o p ≡ (traffic_at final.traffic p).0)
+  driven x k h o b hub_received run stop =
+      let r = drive_same net (star_monotone star monotone hub leaves) script quiescent 0 (shift_said said) (honest_net star hub leaves said honest) is_star (shift x) k (Hub h) (shift o) (below_net x b) (shift_received x o hub_received) (hub_runs_net star hub leaves x k h o run) (ap (hub_result (length leaves)) stop) in
+      (same_state h r.0, λ p. r.1 (suc p) ∙ out_is p)
 
   talk_net : (k : ℕ) (x : Streams) → StarTalk star (length leaves) hub said k x → IsTalk net 0 (shift_said said) k (shift x)
   talk_net zero x t = at
@@ -126,11 +130,11 @@ module _ {H L : Type 0} (star : Star H L) (monotone : IsStarMonotone star) (hub 
       at (suc p) = t.7 p
 
   -- Talk has its fixed point where the calm run ends.
-  pub talk_ends : (k : ℕ) (x : Streams) → StarTalk star (length leaves) hub said k x → (t : ℕ) (h : H) (o : Streams) → IsHubRun star (length leaves) hub x t h o → star.hub_turn h x ≡ None → ((p : ℕ) → x p ≡ said p (o p)) → (h ≡ final.hub) × ((p : ℕ) → x p ≡ (traffic_at final.traffic p).1)
+  pub talk_ends : (k : ℕ) (x : Streams) → StarTalk star (length leaves) hub said k x → (t : ℕ) (h : H) (o : Streams) → IsHubRun star (length leaves) hub x t h o → star.hub_turn h x ≡ None → ((p : ℕ) → x p ≡ said p (o p)) → (h ≡ final.hub) × ((p : ℕ) → o p ≡ (traffic_at final.traffic p).0) × ((p : ℕ) → x p ≡ (traffic_at final.traffic p).1)
   talk_ends k x talk t h o run stop fixed =
       let r = talk_same net (star_monotone star monotone hub leaves) script quiescent 0 (shift_said said) (honest_net star hub leaves said honest) is_star k (shift x) t (Hub h) (shift o) (talk_net k x talk)
       (hub_runs_net star hub leaves x t h o run, ap (hub_result (length leaves)) stop) fixed_net in
-      (same_state h r.0, λ p. r.2 (suc p) ∙ back_is p)
+      (same_state h r.0, λ p. r.1 (suc p) ∙ out_is p, λ p. r.2 (suc p) ∙ back_is p)
     where
       fixed_net : (j : ℕ) → shift x j ≡ shift_said said j (shift o j)
       fixed_net zero = refl

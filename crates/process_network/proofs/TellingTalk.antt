@@ -40,7 +40,7 @@ module _ {S : Type 0} (net : Network S) (monotone : IsMonotone net) (h : ℕ) (s
   left_falls x k zero s t o u l a b = same_falls x zero s t o u (subst (λ m. IsRun net h x m s o) (le_antisymm l (omega arith)) a) b
   left_falls x k (suc n) s t o u l a b = ⊎_elim
       (λ e. same_falls x (suc n) s t o u (subst (λ m. IsRun net h x m s o) e a) b)
-      (λ m. falls_more x s b.0 t o b.1 u b.2 b.5 (left_falls x k n s b.0 o b.1 (le_of_suc-le-suc m) a b.3) (bounded.lowers b.0 x (t, b.2) b.4))
+      (λ m. falls_more x s b.0 t o b.1 u b.2 b.5 (left_falls x k n s b.0 o b.1 (le_of_suc-le-suc m) a b.3) (bounded.lowers x n b.0 b.1 b.3 (t, b.2) b.4))
       (eq-or-lt_of_le l)
 
   -- Nothing is sent past the ports.

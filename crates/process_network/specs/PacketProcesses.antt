@@ -1,6 +1,6 @@
 -- Processes that act by themselves, wait for one whole message on one port, or have halted.
 pub use Rattle.byte_streams.specs.Messages.{IsDecided}
-use Rattle.std.specs.Prelude.{◌≡◌, ℕ, ◌+◌, ◌<◌, ◌≤◌, List, ◌++◌, length, drop, Option, Some, None}
+use Rattle.std.specs.Prelude.{ℕ, ◌+◌, List, drop, Option, Some, None}
 use Rattle.process_network.specs.Network.{update, Streams, Network}
 
 pub data Outlook (C : Type 0) : Type 0 where

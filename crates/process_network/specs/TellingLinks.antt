@@ -1,9 +1,9 @@
 -- One process over links that only tell what they give: more sent bytes give more, and nothing else is known of them.
 use Rattle.std.specs.Prelude.{◌≡◌, ℕ, suc, ◌+◌, ◌<◌, ◌≤◌, ◌⊎◌, List, [], Option, Some, None}
-use Rattle.process_network.specs.Network.{IsPrefix, Streams, Network, IsMaximalRun, IsTalk}
+use Rattle.process_network.specs.Network.{IsPrefix, Streams, Network, IsRun, IsMaximalRun, IsTalk}
 use Rattle.process_network.specs.Star.{Star, to_leaf}
 use Rattle.process_network.specs.CalmRun.{one_if_some}
-use Rattle.process_network.specs.PacketStar.{Ends}
+use Rattle.process_network.specs.PacketStar.{Ends, HubEnd, star_of, fresh_hub}
 use Rattle.process_network.specs.PacketStar.HubOutlook.{HubActs, HubWaits}
 use Rattle.process_network.specs.StarTalk.{IsHubRun, StarTalk}
 
@@ -15,11 +15,12 @@ IsTelling said = (j : ℕ) (y z : List ℕ) → IsPrefix y z → IsPrefix (said 
 abbrev pub AlwaysEnds : {S : Type 0} → Network S → ℕ → Type 0
 AlwaysEnds {S} net h = (x : Streams) → (k : ℕ) × (s : S) × (o : Streams) × IsMaximalRun net h x k s o
 
--- Node h sends a bounded number of messages, all to the first `ports` nodes: no turn raises `left`, and one that sends
--- lowers it.
+-- Node h sends a bounded number of messages, all to the first `ports` nodes: in each state that a run over any received bytes
+-- comes to, no turn raises `left`, and one that sends lowers it.
 pub record SendsBounded {S : Type 0} (net : Network S) (h ports : ℕ) : Type 0 where
   pub left : S → ℕ
-  pub lowers : (s : S) (x : Streams) (r : S × Streams) → net.turn h s x ≡ Some r →
+  pub lowers : (x : Streams) (k : ℕ) (s : S) (o : Streams) → IsRun net h x k s o →
+      (r : S × Streams) → net.turn h s x ≡ Some r →
       (left r.0 < left s) ⊎ ((left r.0 ≤ left s) × ((j : ℕ) → r.1 j ≡ []))
   pub few : (s : S) (x : Streams) (r : S × Streams) → net.turn h s x ≡ Some r → (j : ℕ) → ports ≤ j → r.1 j ≡ []
 
@@ -50,18 +51,19 @@ abbrev pub HubAlwaysEnds : {H L : Type 0} → Star H L → ℕ → H → Type 0
 HubAlwaysEnds {H} star n hub =
     (x : Streams) → (k : ℕ) × (h : H) × (o : Streams) × IsHubRun star n hub x k h o × (star.hub_turn h x ≡ None)
 
--- The hub takes a bounded number of turns: each lowers `left`.
-pub record HubTurnsBounded {H L : Type 0} (star : Star H L) : Type 0 where
+-- The hub takes a bounded number of turns: in each state that a run over any received bytes comes to, one lowers `left`.
+pub record HubTurnsBounded {H L : Type 0} (star : Star H L) (n : ℕ) (hub : H) : Type 0 where
   pub left : H → ℕ
   pub lowers :
-      (h : H) (x : Streams) (r : H × Option (ℕ × List ℕ)) → star.hub_turn h x ≡ Some r → left r.0 < left h
+      (x : Streams) (k : ℕ) (h : H) (o : Streams) → IsHubRun star n hub x k h o
+      → (r : H × Option (ℕ × List ℕ)) → star.hub_turn h x ≡ Some r → left r.0 < left h
 
--- The hub sends a bounded number of messages: no turn raises `left`, and one that sends lowers it.
-pub record HubSendsBounded {H L : Type 0} (star : Star H L) : Type 0 where
+-- The hub sends a bounded number of messages: there no turn raises `left`, and one that sends lowers it.
+pub record HubSendsBounded {H L : Type 0} (star : Star H L) (n : ℕ) (hub : H) : Type 0 where
   pub left : H → ℕ
   pub lowers :
-      (h : H) (x : Streams) (r : H × Option (ℕ × List ℕ)) → star.hub_turn h x ≡ Some r
-      → left r.0 + one_if_some r.1 ≤ left h
+      (x : Streams) (k : ℕ) (h : H) (o : Streams) → IsHubRun star n hub x k h o
+      → (r : H × Option (ℕ × List ℕ)) → star.hub_turn h x ≡ Some r → left r.0 + one_if_some r.1 ≤ left h
 
 -- Round k of the hub's talk gives what the next one gives, and no earlier round does.
 pub record IsFirstFixedHub {H L : Type 0} (star : Star H L) (n : ℕ) (hub : H) (said : ℕ → List ℕ → List ℕ) (k : ℕ) (x : Streams) (turns : ℕ) (h : H) (o : Streams) : Type 0 where
@@ -73,8 +75,12 @@ pub record IsFirstFixedHub {H L : Type 0} (star : Star H L) (n : ℕ) (hub : H) 
       (i : ℕ) (y : Streams) (m : ℕ) (g : H) (u : Streams) → i < k → StarTalk star n hub said i y
       → IsHubRun star n hub y m g u → star.hub_turn g y ≡ None → IsFixed said y u → ⊥
 
--- A hub of packets takes a bounded number of turns: each one that it acts, and each one that takes a packet, lowers `left`.
-pub record HubWorkBounded {H L P : Type 0} (e : Ends H L P) : Type 0 where
+-- A hub of packets takes a bounded number of turns: there each one that it acts, and each one that takes a packet, lowers `left`.
+pub record HubWorkBounded {H L P : Type 0} (e : Ends H L P) (n : ℕ) (hub : H) : Type 0 where
   pub left : H → ℕ
-  pub acts : (h next : H) (sends : Option (ℕ × P)) → e.hub_outlook h ≡ HubActs next sends → left next < left h
-  pub takes : (h : H) (p : ℕ) (m : P) → e.hub_outlook h ≡ HubWaits p → left (e.hub_take h p m) < left h
+  pub acts :
+      (x : Streams) (k : ℕ) (h : HubEnd H) (o : Streams) → IsHubRun (star_of e) n (fresh_hub hub n) x k h o
+      → (next : H) (sends : Option (ℕ × P)) → e.hub_outlook h.core ≡ HubActs next sends → left next < left h.core
+  pub takes :
+      (x : Streams) (k : ℕ) (h : HubEnd H) (o : Streams) → IsHubRun (star_of e) n (fresh_hub hub n) x k h o
+      → (p : ℕ) (m : P) → e.hub_outlook h.core ≡ HubWaits p → left (e.hub_take h.core p m) < left h.core

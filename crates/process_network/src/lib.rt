@@ -110,8 +110,8 @@ pub fn rounds_end<H: Hub>()
         → IsStarQuiescent H.star (reached H.star hub leaves (rounds lists (suc most))) }
 {}
 
-/// The hub alone, over links that give what the leaves would send, is where the calm run ends, as soon as no more of what its
-/// links give would move it.
+/// The hub alone, over links that give what the leaves would send, is where the calm run ends and has sent what it sends there, as
+/// soon as no more of what its links give would move it.
 pub fn hub_over_honest_links<H: Hub>()
     ensures { (hub : H) (leaves : List H.Leaf) (moves : List Move)
         → IsAtRest H.star (calm_end H.star hub leaves moves)
@@ -121,7 +121,8 @@ pub fn hub_over_honest_links<H: Hub>()
         → ((p : ℕ) → IsPrefix (x p) (said p (sent p)))
         → IsHubRun H.star (length leaves) hub x turns h sent
         → H.star.hub_turn h (λ p. said p (sent p)) ≡ None
-        → h ≡ (calm_end H.star hub leaves moves).hub }
+        → (h ≡ (calm_end H.star hub leaves moves).hub)
+        × ((p : ℕ) → sent p ≡ (traffic_at (calm_end H.star hub leaves moves).traffic p).0) }
 {}
 
 /// Over honest links the talk of the hub has its fixed point where the calm run ends.
@@ -133,13 +134,14 @@ pub fn talk_over_honest_links<H: Hub>()
         → (turns : ℕ) (h : H) (sent : Streams) → IsHubRun H.star (length leaves) hub x turns h sent
         → H.star.hub_turn h x ≡ None → IsFixed said x sent
         → (h ≡ (calm_end H.star hub leaves moves).hub)
+        × ((p : ℕ) → sent p ≡ (traffic_at (calm_end H.star hub leaves moves).traffic p).0)
         × ((p : ℕ) → x p ≡ (traffic_at (calm_end H.star hub leaves moves).traffic p).1) }
 {}
 
 /// Over links that only tell what they give, the talk of a hub that sends a bounded number of messages has a first fixed point.
 pub fn talk_over_telling_links<H: Hub>()
     ensures { (ports : ℕ) (hub : H) (said : ℕ → List ℕ → List ℕ) → IsTelling said
-        → HubAlwaysEnds H.star ports hub → HubSendsBounded H.star
+        → HubAlwaysEnds H.star ports hub → HubSendsBounded H.star ports hub
         → (k : ℕ) × (x : Streams) × (turns : ℕ) × (h : H) × (sent : Streams)
         × IsFirstFixedHub H.star ports hub said k x turns h sent }
 {}
