@@ -15,11 +15,11 @@
 //! zeros. Data and enables are two lower-case hexadecimal digits a byte, or `-` where there are none.
 #![tactic(auto)]
 
-mod decoding;
 mod fault;
+mod hexadecimal;
 mod laws;
-mod printing;
-mod reading;
+mod parser;
+mod printer;
 #[cfg(test)]
 mod tests;
 mod words_in;
@@ -27,5 +27,5 @@ mod words_out;
 
 pub use fault::LineFault;
 pub use laws::one_line;
-pub use printing::packet_line;
-pub use reading::read_line;
+pub use parser::read_line;
+pub use printer::packet_line;

@@ -3,8 +3,8 @@
 ghost use Rattle.std.specs.Prelude.{◌≡◌, ◌+◌, ◌<◌, ◌≤◌, ◌↔◌, ◌++◌, ◌∷◌, [], ℕ, List, IsTrue, IfOk, MatchOption, option_copied};
 ghost use Rattle.rp_text.specs.Words.{first_word, rest_of_words, left};
 
-use crate::decoding::read_bytes;
 use crate::fault::LineFault;
+use crate::hexadecimal::read_bytes;
 use cos_base::{NoMemory, Numbers, Octets};
 use cos_text::{read_decimal, read_hexadecimal};
 use std::alloc::Global;
@@ -98,7 +98,7 @@ impl<'a> Words<'a> {
     }
 
     /// Takes a number of at most this size, or refuses the word.
-    pub fn decimal(&mut self, most: u64) -> u64
+    pub fn read_decimal(&mut self, most: u64) -> u64
         ensures { TakesNumber most self.old self.new result }
     {
         let Some(word) = self.take() else {
@@ -114,7 +114,7 @@ impl<'a> Words<'a> {
     }
 
     /// Takes a number in hexadecimal, or refuses the word.
-    pub fn hex(&mut self) -> u64
+    pub fn read_hexadecimal(&mut self) -> u64
         ensures { TakesHex self.old self.new result }
     {
         let Some(word) = self.take() else {
@@ -130,24 +130,24 @@ impl<'a> Words<'a> {
     }
 
     /// Takes a number of one byte.
-    pub fn decimal_u8(&mut self) -> u8
+    pub fn read_u8(&mut self) -> u8
         ensures { TakesNumber 255 self.old self.new result }
     {
-        self.decimal(255) as u8
+        self.read_decimal(255) as u8
     }
 
     /// Takes a number of two bytes.
-    pub fn decimal_u16(&mut self) -> u16
+    pub fn read_u16(&mut self) -> u16
         ensures { TakesNumber 65535 self.old self.new result }
     {
-        self.decimal(65535) as u16
+        self.read_decimal(65535) as u16
     }
 
     /// Takes a number of four bytes.
-    pub fn decimal_u32(&mut self) -> u32
+    pub fn read_u32(&mut self) -> u32
         ensures { TakesNumber 4294967295 self.old self.new result }
     {
-        self.decimal(0xffff_ffff) as u32
+        self.read_decimal(0xffff_ffff) as u32
     }
 
     /// Takes bytes, or refuses the word.
@@ -168,12 +168,12 @@ impl<'a> Words<'a> {
     }
 
     /// Takes all words that are left as numbers of four bytes.
-    pub fn capabilities(&mut self, alloc: Global) -> Result<Numbers, NoMemory>
+    pub fn read_capabilities(&mut self, alloc: Global) -> Result<Numbers, NoMemory>
         ensures { IfOk result (λ caps. TakesCaps self.old self.new caps) }
     {
         let mut caps = Numbers::make(alloc);
         'words: while self.has_more() {
-            let cap = self.decimal_u32();
+            let cap = self.read_u32();
             caps.push(cap)?;
         }
         Ok(caps)

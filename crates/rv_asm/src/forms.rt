@@ -156,7 +156,7 @@ fn fence(text: &[u8]) -> Result<Operands, Cause>
 }
 
 /// Nothing.
-fn whole(text: &[u8]) -> Result<Operands, Cause>
+fn no_operands(text: &[u8]) -> Result<Operands, Cause>
     ensures value { result ≡ whole (operands_in text.now) }
     ensures format { IfOk result (λ operands. Format.Whole ≡ format_of operands) }
 {
@@ -187,7 +187,7 @@ pub fn operands_of(row: Row, labels: &Labels, source: u128, text: &[u8]) -> Resu
         Format::Shift => shift(text),
         Format::R => registers(text),
         Format::Fence => fence(text),
-        Format::Whole => whole(text),
+        Format::Whole => no_operands(text),
         Format::Csr => csr_register(text),
         Format::CsrImmediate => csr_immediate(text),
     }

@@ -56,7 +56,7 @@ fn some_digits(radix: u64, text: &[u8]) -> Option<u64>
 }
 
 /// Decimal digits without a leading zero.
-pub fn decimal(text: &[u8]) -> Option<u64>
+pub fn read_decimal(text: &[u8]) -> Option<u64>
     ensures { result ≡ kept (decimal_numeral text.now) }
 {
     match text {
@@ -81,9 +81,9 @@ pub fn read_number(text: &[u8]) -> Option<Number>
 {
     match text {
         [] => None,
-        [b'-', rest @ ..] => Some(Number::Minus(decimal(rest)?)),
+        [b'-', rest @ ..] => Some(Number::Minus(read_decimal(rest)?)),
         [b'0', rest @ ..] => read_after_zero(rest),
-        _ => Some(Number::Plus(decimal(text)?)),
+        _ => Some(Number::Plus(read_decimal(text)?)),
     }
 }
 

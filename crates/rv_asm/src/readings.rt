@@ -6,7 +6,7 @@ ghost use Rattle.rv_asm.specs.Readings.{unknown, below, register, csr, address};
 
 use crate::Cause;
 use crate::csrs::numbered;
-use crate::numbers::{decimal, plain, ranged, read_number};
+use crate::numbers::{plain, ranged, read_decimal, read_number};
 use crate::texts::has_name_form;
 use cos_text::cut;
 
@@ -24,7 +24,7 @@ pub fn unknown(text: &[u8]) -> Cause
 fn register_number(digits: &[u8]) -> Option<u32>
     ensures { result ≡ below 32 (decimal_numeral digits.now) }
 {
-    match decimal(digits) {
+    match read_decimal(digits) {
         Some(number) if number < 32 => Some(number as u32),
         _ => None,
     }

@@ -7,14 +7,14 @@
 mod call_lines;
 mod closing;
 mod ending;
+mod output;
 mod pieces;
-mod putting;
 mod sent;
 
 pub use call_lines::call_line;
 pub use closing::closing_lines;
 pub use ending::{Ending, Out, Outs};
-pub use putting::put_lines;
+pub use output::put_lines;
 pub use sent::outs_of;
 
 #[cfg(test)]

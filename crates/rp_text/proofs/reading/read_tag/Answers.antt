@@ -1,5 +1,0 @@
-use Rattle.rp_text.proofs.Bodies.{takes-tag}
-use Rattle.rp_text.proofs.reading.read_tag.Goals as goal
-
-pub returns : goal.returns
-returns c = takes-tag c.args.words.now c.decimal_u32.new.self c.decimal_u32-2.new.self c.decimal_u32-3.new.self _ c.decimal_u32.ensures c.decimal_u32-2.ensures c.decimal_u32-3.ensures
