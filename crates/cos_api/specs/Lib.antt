@@ -2,4 +2,3 @@ pub mod CallLists
 pub mod Enables
 pub mod Lanes
 pub mod Levels
-pub mod SmallParts

@@ -6,7 +6,7 @@ use Rattle.cosim_model.specs.declared.values.Closing.{Closing}
 use Rattle.cosim_model.specs.Values.{all_on, bits_of}
 use Rattle.cosim_model.specs.Parts.{MasterModel, IsMaster, IsAccess, IsByte}
 use Rattle.sys_bus.specs.Units.{rv_model}
-use Rattle.sys_bus.specs.Laws.{rv_lawful}
+use Rattle.sys_bus.specs.MasterLaws.{rv_lawful}
 use Rattle.cos_script.specs.Masters.{script_model}
 use Rattle.cos_script.specs.MasterLaws.{script_lawful}
 use Rattle.cos_parts.specs.declared.any_master.AnyMaster.{AnyMaster}

@@ -15,7 +15,7 @@ use Rattle.rp_packet.specs.Reading.{IsOnePacket, Judges}
 use Rattle.rp_packet.specs.ReadingLaws.{Begins, Begins-Spells, length-Spells}
 use Rattle.rp_packet.specs.Streams.{Spelled, Spelled_none, Spelled_one, Stream}
 use Rattle.rp_packet.specs.StreamLaws.{same-some, first-spelled}
-use Rattle.rp_packet.specs.Walks.{Stream-front, Stream-none, Faulty-none, one-stream, one-faulty, never-both}
+use Rattle.rp_packet.specs.WalkLaws.{Stream-front, Stream-none, Faulty-none, one-stream, one-faulty, never-both}
 use Rattle.rp_text.specs.Texts.{line_of}
 use Rattle.outcomes.specs.declared.failures.JudgeFault.{JudgeFault}
 use Rattle.outcomes.specs.declared.failures.JudgeFault.TheVariants as list

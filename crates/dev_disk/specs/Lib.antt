@@ -1,4 +1,4 @@
 pub mod Works
 pub mod Disks
 pub mod DiskLaws
-pub mod Keeping
+pub mod KeepingLaws

@@ -290,7 +290,7 @@ impl Disk {
 impl Device for Disk {
     ghost use Rattle.std.specs.Prelude.{◌≡◌, ◌≤◌, IfOk, IsOk, OnErr, IsSome};
     ghost use Rattle.dev_disk.specs.Disks.{disk_model};
-    ghost use Rattle.dev_disk.specs.Keeping.{ChangesByFetch, KeepsBad};
+    ghost use Rattle.dev_disk.specs.KeepingLaws.{ChangesByFetch, KeepsBad};
     ghost use Rattle.dev_disk.specs.DiskLaws.{disk_lawful};
 
     ghost model = { disk_model };

@@ -7,8 +7,6 @@ mod machine;
 pub mod outcome;
 mod parts;
 mod run;
-#[cfg(test)]
-mod tests;
 mod wants;
 
 pub use machine::{direct, direct_by_port};

@@ -8,11 +8,11 @@ use cos_base::Octets;
 use cos_parts::{AnyDevice, AnyMaster};
 use cosim_model::Plan;
 use dev_uart::Uart;
+use direct_machine::direct;
 use std::alloc::Global;
 use std::process::Abort;
 use sys_bus::{Map, RvMaster, Window};
 use sys_ram::Ram;
-use direct_machine::direct;
 
 /// It sends the byte 65 by a UART at 0x10000000, and stops the machine with code 0:
 /// lui x1, 0x10000; addi x2, x0, 65; sw x2, 0(x1); lui x3, 0x100; sw x0, 0(x3); jal x0, 0.

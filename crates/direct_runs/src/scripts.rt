@@ -11,11 +11,11 @@ use cosim_model::Plan;
 use dev_disk::Disk;
 use dev_dma::Dma;
 use dev_timer::Timer;
+use direct_machine::outcome::Direct;
+use direct_machine::{Parts, direct, direct_by_port};
 use std::alloc::Global;
 use std::process::Abort;
 use sys_ram::Ram;
-use direct_machine::outcome::Direct;
-use direct_machine::{direct, direct_by_port};
 
 const PLAN: Plan = Plan {
     quantum: 10,
@@ -215,4 +215,18 @@ fn a_disk_refuses_a_transfer_of_nothing_or_past_its_end(rt: HostRuntime) {
         gave(6, 0, 0x10, 0x6),
     ];
     assert_eq!(rt; run.calls.as_slice(), expected.as_slice());
+}
+
+#[test]
+fn parts_are_kept_by_port(rt: HostRuntime) {
+    let mut parts = Parts::make(rt.alloc());
+    for line in [4, 5] {
+        match parts.push(AnyDevice::Timer(Timer::make(line))) {
+            Ok(()) => {}
+            Err(_) => panic!(&rt; "there is memory"),
+        }
+    }
+    assert_eq!(rt; parts.len(), 2);
+    let parts = Parts::from_vec(parts.into_vec());
+    assert_eq!(rt; parts.as_slice().len(), 2);
 }

@@ -1,4 +1,4 @@
 pub mod Fields
-pub mod FieldLaws
 pub mod Parts
+pub mod FieldLaws
 pub mod PartLaws

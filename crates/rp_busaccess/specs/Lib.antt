@@ -1,5 +1,5 @@
 pub mod Buses
 pub mod Refusals
 pub mod Writing
-pub mod BusLaws
 pub mod Bits
+pub mod BusLaws

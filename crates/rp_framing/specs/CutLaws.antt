@@ -15,7 +15,7 @@ use Rattle.rp_packet.specs.Refusals.{first, place_of}
 use Rattle.rp_packet.specs.Reading.{fault_at}
 use Rattle.rp_packet.specs.Streams.{Spelled, Spelled_none, Spelled_one, Stream, Faulty, IsStream, IsFaulty}
 use Rattle.rp_packet.specs.StreamLaws.{first-decided}
-use Rattle.rp_packet.specs.Walks.{Stream-front, Stream-none, Faulty-front, Faulty-none, one-stream, one-faulty, never-both, every-list, first-nothing, first-refused, Spelled-more}
+use Rattle.rp_packet.specs.WalkLaws.{Stream-front, Stream-none, Faulty-front, Faulty-none, one-stream, one-faulty, never-both, every-list, first-nothing, first-refused, Spelled-more}
 use Rattle.rp_framing.specs.declared.fault.FrameFault.{FrameFault}
 use Rattle.rp_framing.specs.declared.fault.FrameFault.TheVariants.{Malformed, NoMemory}
 use Rattle.rp_framing.specs.declared.fault.Truncated.{Truncated}

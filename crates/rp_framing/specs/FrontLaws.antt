@@ -14,7 +14,7 @@ use Rattle.rp_packet.specs.Streams.{Unfinished}
 use Rattle.rp_packet.specs.Reading.{IsOnePacket, fault_at, IsReadFault, IsEarlyFault}
 use Rattle.rp_header.specs.HeaderLaws.{refusal-lawful}
 use Rattle.rp_packet.specs.ReadingLaws.{header-lawful}
-use Rattle.rp_packet.specs.Walks.{first-nothing}
+use Rattle.rp_packet.specs.WalkLaws.{first-nothing}
 use Rattle.rp_packet.specs.StreamLaws.{front-stays, early-stays, late-stays, first-early, first-whole, first-unfinished, first-spelled}
 use Rattle.rp_framing.specs.Framing.{IsFront}
 

@@ -1,4 +1,4 @@
 pub mod Numbers
-pub mod NumberLaws
 pub mod Headers
+pub mod NumberLaws
 pub mod HeaderLaws

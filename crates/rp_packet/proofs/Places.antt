@@ -11,7 +11,7 @@ use Rattle.rp_packet.specs.declared.fault.Cause.{Cause}
 use Rattle.rp_packet.specs.Refusals.{place_of, first}
 use Rattle.rp_packet.specs.Streams.{packet_codec, Spelled, Spelled_none, Spelled_one, Faulty}
 use Rattle.rp_packet.specs.StreamLaws.{first-spelled, first-decided}
-use Rattle.rp_packet.specs.Walks.{first-taken, first-refused, first-bad}
+use Rattle.rp_packet.specs.WalkLaws.{first-taken, first-refused, first-bad}
 
 -- what stands in front of the rest
 record Fronts (ps : List Packet) (n : ℕ) (x : List ℕ) : Type 0 where

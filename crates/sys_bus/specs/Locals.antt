@@ -5,7 +5,7 @@ use Rattle.rv_core.specs.Units.{applied, waiting_of}
 use Rattle.sys_ram.specs.Memory.{number_of, store_of}
 use Rattle.sys_bus.specs.declared.machine.Machine.{Machine}
 use Rattle.sys_bus.specs.Accesses.{IsHartAccess}
-use Rattle.sys_bus.specs.Rows.{waiting-is}
+use Rattle.sys_bus.specs.RowLaws.{waiting-is}
 use Rattle.sys_bus.specs.Systems.{pending_of}
 use Rattle.sys_bus.specs.Units.{loaded, stored, accessed, after_effect, effect_in, local_unit}
 

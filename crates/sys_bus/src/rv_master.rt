@@ -117,7 +117,7 @@ fn bus(port: u32, window: Window, request: HartAccess) -> Bus
 
 impl Master for RvMaster {
     ghost use Rattle.sys_bus.specs.Units.{rv_model};
-    ghost use Rattle.sys_bus.specs.Laws.{rv_lawful};
+    ghost use Rattle.sys_bus.specs.MasterLaws.{rv_lawful};
 
     ghost model = { rv_model };
 

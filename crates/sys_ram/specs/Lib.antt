@@ -1,4 +1,4 @@
 pub mod Loads
 pub mod Memory
-pub mod MemoryLaws
 pub mod Pages
+pub mod MemoryLaws

@@ -1,4 +1,4 @@
-use Rattle.rp_packet.specs.Walks.{every-list, never-both, one-stream, one-faulty}
+use Rattle.rp_packet.specs.WalkLaws.{every-list, never-both, one-stream, one-faulty}
 use Rattle.rp_packet.proofs.laws.every_stream.Goals as goal
 
 pub returns-clause-either : goal.returns-clause-either

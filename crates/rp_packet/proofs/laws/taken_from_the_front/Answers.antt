@@ -1,4 +1,4 @@
-use Rattle.rp_packet.specs.Walks.{first-taken, first-nothing, first-refused, Spelled-more}
+use Rattle.rp_packet.specs.WalkLaws.{first-taken, first-nothing, first-refused, Spelled-more}
 use Rattle.rp_packet.proofs.laws.taken_from_the_front.Goals as goal
 
 pub returns-clause-taken : goal.returns-clause-taken

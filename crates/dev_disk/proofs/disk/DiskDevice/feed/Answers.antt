@@ -1,7 +1,7 @@
 use Rattle.std.proofs.Common.{subst, ap, ◌∙◌}
 use Rattle.dev_disk.specs.Works.{IsRunning, sector_of}
 use Rattle.dev_disk.specs.Disks.{DiskRegisters}
-use Rattle.dev_disk.specs.Keeping.{fed-bad}
+use Rattle.dev_disk.specs.KeepingLaws.{fed-bad}
 use Rattle.dev_disk.proofs.disk.DiskDevice.feed.Goals as goal
 
 pub returns-clause-bad : goal.returns-clause-bad

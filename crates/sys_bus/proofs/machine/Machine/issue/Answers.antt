@@ -1,5 +1,5 @@
 use Rattle.std.proofs.Common.{sym}
-use Rattle.sys_bus.specs.Rows.{waiting-is}
+use Rattle.sys_bus.specs.RowLaws.{waiting-is}
 use Rattle.sys_bus.proofs.machine.Machine.issue.Goals as goal
 
 pub access-requires : goal.access-requires
