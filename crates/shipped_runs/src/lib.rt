@@ -5,7 +5,6 @@
 #![tactic(auto)]
 
 ghost use Rattle.std.specs.Prelude.{◌≡◌, ℕ, List, Ok};
-ghost use Rattle.process_network.specs.TellingLinks.{IsTelling};
 ghost use Rattle.cos_base.specs.Stores.{Store};
 ghost use Rattle.cos_config.specs.declared.config.Config.{Config};
 ghost use Rattle.cos_config.specs.declared.config.Sockets.{Sockets};
