@@ -1,8 +1,11 @@
--- One turn of a machine end: a local unit, one packet sent, one packet taken, one posted request served, or a boundary without
--- ports.
+-- One turn of a machine end: a local unit, one packet sent, one packet taken, one posted request served, or a
+-- boundary without ports.
 use Rattle.cosim_model.specs.declared.values.Plan.{Plan}
+use Rattle.cosim_model.specs.declared.values.Reply.{Reply}
 pub use Rattle.cosim_model.specs.Order.{later, lower, least, at_quantum}
-use Rattle.std.specs.Prelude.{ℕ, zero, suc, Bool, true, false, not, ◌&&◌, ◌||◌, if◌then◌else◌, nat_eq, nat_lt, nat_le, List, [], ◌∷◌, ◌++◌, length, set, replicate, map, Option, Some, None, is_some, is_none, option_map, slice_get, Result, Ok, Err}
+use Rattle.std.specs.Prelude.{ℕ, zero, suc, Bool, true, false, not, ◌&&◌, ◌||◌, if◌then◌else◌, nat_eq, nat_lt, nat_le}
+use Rattle.std.specs.Prelude.{List, [], ◌∷◌, ◌++◌, length, set, replicate, map, Option, Some, None, is_some, is_none}
+use Rattle.std.specs.Prelude.{option_map, slice_get, Result, Ok, Err}
 use Rattle.ends_model.specs.declared.ends.Phase.{Phase}
 use Rattle.ends_model.specs.declared.ends.Phase.TheVariants.{Greet, Meet, Run, AnswerFrom, SyncTo, Gather, Done}
 use Rattle.process_network.specs.PacketStar.{HubOutlook}
@@ -21,19 +24,23 @@ use Rattle.cosim_model.specs.Packets.Body.{Read, Write, Interrupt, Sync}
 use Rattle.cosim_model.specs.Packets.Decoded.{Valid, Malformed}
 use Rattle.cosim_model.specs.declared.session.SessionFault.{SessionFault}
 use Rattle.cosim_model.specs.declared.session.Event.{Event}
-use Rattle.cosim_model.specs.Sessions.{Session, take_packet, hello_of, hello_sent, begin_wait, request_sent, request_of, answer_of, other_answered, ticket_of, is_posted}
+use Rattle.cosim_model.specs.Sessions.{Session, take_packet, hello_of, hello_sent, begin_wait, request_sent, request_of}
+use Rattle.cosim_model.specs.Sessions.{answer_of, other_answered, ticket_of, is_posted}
 use Rattle.cosim_model.specs.declared.session.Event.TheVariants.{Nothing, Met, Asked, Told, Answered, SyncDone}
 use Rattle.cosim_model.specs.declared.session.EndFault.{EndFault}
-use Rattle.ends_model.specs.DeviceTurn.{request_fields, answer_fields, refused_read, refused_write, is_whole_width, bare_reply}
+use Rattle.ends_model.specs.DeviceTurn.{request_fields, answer_fields, refused_read, refused_write, is_whole_width}
+use Rattle.ends_model.specs.DeviceTurn.{bare_reply}
 use Rattle.cosim_model.specs.declared.session.EndFault.TheVariants as end_fault
 
--- A port of the machine end. `held` is a request that was taken and is not served, and `last` the time of the latest request sent.
+-- A port of the machine end. `held` is a request that was taken and is not served, and `last` the time of the latest
+-- request sent.
 pub record PortEnd : Type 0 where
   pub session : Session
   pub held : Option Packet
   pub last : ℕ
 
--- `marked` says that the boundary at this tick is done. A fault is kept with its port, and then the end takes no more turns.
+-- `marked` says that the boundary at this tick is done. A fault is kept with its port, and then the end takes no more
+-- turns.
 pub record MachineEnd (M F : Type 0) : Type 0 where
   pub plan : Plan
   pub phase : Phase
@@ -93,8 +100,8 @@ time_of (Interrupt time vector line val) = time
 time_of (Sync time) = time
 time_of _ = 0
 
--- What a served request does: the master after it, its call if it is one, and the answer's body. A read or write has 1 to 4,096
--- bytes, and is a call where a want can hold it: at most 64 bytes, and no disabled byte of a read.
+-- What a served request does: the master after it, its call if it is one, and the answer's body. A read or write has
+-- 1 to 4,096 bytes, and is a call where a want can hold it: at most 64 bytes, and no disabled byte of a read.
 pub record Service (M : Type 0) : Type 0 where
   pub master : M
   pub calls : List Call
@@ -107,11 +114,15 @@ abbrev pub if_call : Bool → Call → List Call
 if_call true c = c ∷ []
 if_call false c = []
 
+abbrev pub read_reply : ℕ → ℕ × List ℕ → Reply
+read_reply size r = record { code = r.0; size = size; bytes = padded r.1 }
+
 abbrev pub serve_read : {M : Type 0} → MasterModel M → M → ℕ → ℕ → BusFields → Bool → Service M
 serve_read k m tick port f false = record { master = m; calls = []; answer = refused_read f }
 serve_read k m tick port f true = record {
   master = m;
-  calls = if_call (nat_le f.len 64 && all_on (enabled f)) (call.Served tick port f.time (Fetch f.addr f.len) (record { code = (k.read m f.addr f.len).0; size = f.len; bytes = padded (k.read m f.addr f.len).1 }));
+  calls = if_call (nat_le f.len 64 && all_on (enabled f))
+      (call.Served tick port f.time (Fetch f.addr f.len) (read_reply f.len (k.read m f.addr f.len)));
   answer = Read (answer_fields f (k.read m f.addr f.len).0 f.len (masked (enabled f) (k.read m f.addr f.len).1));
 }
 
@@ -119,7 +130,9 @@ abbrev pub serve_write : {M : Type 0} → MasterModel M → M → ℕ → ℕ �
 serve_write k m tick port f false = record { master = m; calls = []; answer = refused_write f }
 serve_write k m tick port f true = record {
   master = (k.write m f.addr f.payload (enabled f)).0;
-  calls = if_call (nat_le f.len 64) (call.Served tick port f.time (Store f.addr f.len (padded f.payload) (from_bits (enabled f))) (bare_reply (k.write m f.addr f.payload (enabled f)).1));
+  calls = if_call (nat_le f.len 64)
+      (call.Served tick port f.time (Store f.addr f.len (padded f.payload) (from_bits (enabled f)))
+      (bare_reply (k.write m f.addr f.payload (enabled f)).1));
   answer = Write (answer_fields f (k.write m f.addr f.payload (enabled f)).1 f.len []);
 }
 
@@ -217,9 +230,9 @@ module _ {M F : Type 0} (k : MasterModel M) where
   abbrev pub finished : MachineEnd M F → ℕ → Access → Answer → MachineEnd M F
   finished h p a x = record (unit_done h (k.finish h.master x)) { calls = h.calls ++ call.Access h.tick p a x ∷ [] }
 
-  -- What it does, a row a phase. All syncs of a boundary are sent before an answer is taken; then the least port is awaited that
-  -- holds no request and has not answered its sync; where there is none, the held request with the least time is served, and that
-  -- of the least port among equals.
+  -- What it does, a row a phase. All syncs of a boundary are sent before an answer is taken; then the least port is
+  -- awaited that holds no request and has not answered its sync; where there is none, the held request with the least
+  -- time is served, and that of the least port among equals.
 
   abbrev pub greets : MachineEnd M F → ℕ → PortEnd → Act M F
   greets h p q =
@@ -262,7 +275,8 @@ module _ {M F : Type 0} (k : MasterModel M) where
       Serves p (after_service h p (record q { held = None }) (serve_body k h.master h.tick p m.body))
   serves h p q m false =
       Sends p (answer_of (ticket_of m) (serve_body k h.master h.tick p m.body).answer)
-      (after_service h p (record q { held = None; session = other_answered q.session }) (serve_body k h.master h.tick p m.body))
+      (after_service h p (record q { held = None; session = other_answered q.session })
+      (serve_body k h.master h.tick p m.body))
 
   abbrev pub serves_held : MachineEnd M F → ℕ → PortEnd → Option Packet → Act M F
   serves_held h p q None = Lost
@@ -351,4 +365,13 @@ start_phase zero = Run
 start_phase (suc n) = Greet 0
 
 abbrev pub fresh_machine : {M F : Type 0} → M → ℕ → Plan → Session → MachineEnd M F
-fresh_machine m n plan session = record { plan = plan; phase = start_phase n; master = m; ports = replicate n (record { session = session; held = None; last = 0 }); calls = []; tick = 0; marked = false; fault = None }
+fresh_machine m n plan session = record {
+  plan = plan;
+  phase = start_phase n;
+  master = m;
+  ports = replicate n (record { session = session; held = None; last = 0 });
+  calls = [];
+  tick = 0;
+  marked = false;
+  fault = None;
+}

@@ -1,6 +1,7 @@
--- What crosses each port: what the machine end sends is made from the run of the direct machine, and what a device end sends is
--- its answer to that.
-use Rattle.std.specs.Prelude.{ℕ, zero, suc, Bool, true, false, ◌&&◌, if◌then◌else◌, nat_eq, List, [], ◌∷◌, ◌++◌, length, take, Option, Some, None}
+-- What crosses each port: what the machine end sends is made from the run of the direct machine, and what a device
+-- end sends is its answer to that.
+use Rattle.std.specs.Prelude.{ℕ, zero, suc, Bool, true, false, ◌&&◌, if◌then◌else◌, nat_eq, List, [], ◌∷◌, ◌++◌, length}
+use Rattle.std.specs.Prelude.{take, Option, Some, None}
 use Rattle.process_network.specs.PacketStar.{Ends, LeafEnd, leaf_turn_by, fresh_leaf}
 use Rattle.process_network.specs.PacketStar.HubOutlook.{HubHalts}
 use Rattle.cosim_model.specs.declared.session.Role.TheVariants.{Machine}
@@ -19,8 +20,8 @@ use Rattle.cosim_model.specs.Direct.{Moment}
 use Rattle.cosim_model.specs.Direct.Moment.{Called, Boundary}
 use Rattle.ends_model.specs.World.{Side}
 
--- What the machine end has sent on a port. `next` is the number of its next request there, and `asks` that of the device's next
--- request, posted ones counted.
+-- What the machine end has sent on a port. `next` is the number of its next request there, and `asks` that of the
+-- device's next request, posted ones counted.
 pub record Sent : Type 0 where
   pub next : ℕ
   pub asks : ℕ
@@ -45,16 +46,26 @@ replies side id due w r true = reply_packet (numbered id false (want_body side.o
 replies side id due w r false = []
 
 abbrev pub with_request : Sent → Bool → Body → Sent
-with_request s posted b = record { next = next_number s.next; asks = s.asks; out = s.out ++ numbered s.next posted b ∷ [] }
+with_request s posted b = record {
+  next = next_number s.next;
+  asks = s.asks;
+  out = s.out ++ numbered s.next posted b ∷ [];
+}
 
 abbrev pub with_reply : Side → Sent → ℕ → Want → Reply → Sent
-with_reply side s due w r = record { next = s.next; asks = next_number s.asks; out = s.out ++ replies side s.asks due w r (is_answered (side.offer.posted && side.answered_lines) w) }
+with_reply side s due w r = record {
+  next = s.next;
+  asks = next_number s.asks;
+  out = s.out ++ replies side s.asks due w r (is_answered (side.offer.posted && side.answered_lines) w);
+}
 
--- In the order of the run: a request for each access of the port; at each boundary a sync at its tick; an answer for each
--- answered want of the port that was served. A machine end offers all capabilities, so what the device end offers is common.
+-- In the order of the run: a request for each access of the port; at each boundary a sync at its tick; an answer for
+-- each answered want of the port that was served. A machine end offers all capabilities, so what the device end
+-- offers is common.
 
 abbrev pub after_call : Side → ℕ → Sent → Call → Sent
-after_call side p s (call.Access t q a x) = if nat_eq q p then with_request s a.posted (access_body side.offer t a) else s
+after_call side p s (call.Access t q a x) =
+    if nat_eq q p then with_request s a.posted (access_body side.offer t a) else s
 after_call side p s (call.Served t q due w r) = if nat_eq q p then with_reply side s due w r else s
 
 abbrev pub after_moment : Side → ℕ → Sent → Moment → Sent
@@ -72,8 +83,8 @@ after_hello = record { next = 1; asks = 1; out = hello_of (fresh_session Machine
 abbrev pub wire_out : Side → ℕ → List Moment → List Packet
 wire_out side p history = (after_history side p after_hello history).out
 
--- What a device end sends when it takes every turn that it can over received bytes. The first turn sends the hello, and every later
--- one takes a packet, so there is at most one more than there are bytes.
+-- What a device end sends when it takes every turn that it can over received bytes. The first turn sends the hello,
+-- and every later one takes a packet, so there is at most one more than there are bytes.
 
 abbrev pub leaf_after : {L : Type 0} → L → Option (L × List ℕ) → L
 leaf_after l None = l
@@ -86,7 +97,14 @@ leaf_sends (Some r) = r.1
 module _ {S F : Type 0} (d : DeviceModel S) (codec : Codec F) where
   -- a device end with no machine end
   abbrev pub device_alone : Ends (Unit {0}) (DeviceEnd S F) (Decoded F)
-  device_alone = record { hub_outlook = λ h. HubHalts; hub_take = λ h p m. h; leaf_outlook = device_outlook; leaf_take = device_hears d; first = codec.first; write = spell codec }
+  device_alone = record {
+    hub_outlook = λ h. HubHalts;
+    hub_take = λ h p m. h;
+    leaf_outlook = device_outlook;
+    leaf_take = device_hears d;
+    first = codec.first;
+    write = spell codec;
+  }
 
   abbrev pub device_turn : LeafEnd (DeviceEnd S F) → List ℕ → Option (LeafEnd (DeviceEnd S F) × List ℕ)
   device_turn l x = leaf_turn_by device_alone l x (device_outlook l.core)

@@ -1,5 +1,6 @@
 -- The machine end and the device ends of a run, when they go together, and the world that they make.
-use Rattle.std.specs.Prelude.{◌≡◌, ℕ, ◌^◌, ◌<◌, ◌≤◌, ◌⊎◌, Bool, true, ◌&&◌, if◌then◌else◌, nat_eq, List, [], ◌∷◌, length, map, Some, None, slice_get}
+use Rattle.std.specs.Prelude.{◌≡◌, ℕ, ◌^◌, ◌<◌, ◌≤◌, ◌⊎◌, Bool, true, ◌&&◌, if◌then◌else◌, nat_eq, List, [], ◌∷◌}
+use Rattle.std.specs.Prelude.{length, map, Some, None, slice_get}
 use Rattle.process_network.specs.Star.{StarWorld, StarStep, star_all, star_start}
 use Rattle.process_network.specs.PacketStar.{Ends, HubEnd, LeafEnd, star_of, fresh_hub, fresh_leaf}
 use Rattle.cosim_model.specs.declared.session.Role.TheVariants.{Machine, Device}
@@ -14,14 +15,15 @@ use Rattle.cosim_model.specs.Sessions.{fresh_session}
 use Rattle.ends_model.specs.DeviceTurn.{DeviceEnd, device_outlook, device_hears, fresh_device}
 use Rattle.ends_model.specs.MachineTurn.{MachineEnd, machine_outlook, machine_takes, fresh_machine}
 
--- What a port's end is made with: the capabilities that it offers, those that its device needs, and whether it sends a line so that
--- it is answered, where that is common.
+-- What a port's end is made with: the capabilities that it offers, those that its device needs, and whether it sends
+-- a line so that it is answered, where that is common.
 pub record Side : Type 0 where
   pub offer : Caps
   pub needs : Caps
   pub answered_lines : Bool
 
-abbrev pub ends : {M S F : Type 0} → MasterModel M → DeviceModel S → Codec F → Ends (MachineEnd M F) (DeviceEnd S F) (Decoded F)
+abbrev pub ends :
+    {M S F : Type 0} → MasterModel M → DeviceModel S → Codec F → Ends (MachineEnd M F) (DeviceEnd S F) (Decoded F)
 ends k d codec = record {
   hub_outlook = machine_outlook k;
   hub_take = machine_takes k;
@@ -37,9 +39,11 @@ machine_start F m n plan = fresh_machine m n plan (fresh_session Machine all_cap
 abbrev pub device_start : {S : Type 0} → (F : Type 0) → Side → S → DeviceEnd S F
 device_start F side s = fresh_device s side.answered_lines (fresh_session Device side.offer side.needs)
 
--- When a master and ends go together: at most 16 fresh ends, each of which offers what its device needs; a master that has nothing
--- issued and names no other port, and disables no lane where a port can't say so. Each port has its side and its device.
-pub record Fit {M S : Type 0} (k : MasterModel M) (d : DeviceModel S) (plan : Plan) (m : M) (xs : List (Side × S)) : Type 0 where
+-- When a master and ends go together: at most 16 fresh ends, each of which offers what its device needs; a master
+-- that has nothing issued and names no other port, and disables no lane where a port can't say so. Each port has its
+-- side and its device.
+pub record Fit {M S : Type 0} (k : MasterModel M) (d : DeviceModel S) (plan : Plan) (m : M)
+    (xs : List (Side × S)) : Type 0 where
   pub ports : length xs ≤ 16
   pub quantum : 0 < plan.quantum
   pub units : plan.units < 2 ^ 32
@@ -50,7 +54,9 @@ pub record Fit {M S : Type 0} (k : MasterModel M) (d : DeviceModel S) (plan : Pl
   pub wires : (p : ℕ) (x : Side × S) → slice_get xs p ≡ Some x → x.0.needs.posted ≡ true → x.0.offer.posted ≡ true
   pub reach : k.reach m ≤ length xs
   pub issued : k.issued m ≡ None
-  pub full : (k.full m ≡ true) ⊎ ((p : ℕ) (x : Side × S) → slice_get xs p ≡ Some x → x.0.offer.base && x.0.offer.enables ≡ true)
+  pub full :
+      (k.full m ≡ true)
+      ⊎ ((p : ℕ) (x : Side × S) → slice_get xs p ≡ Some x → x.0.offer.base && x.0.offer.enables ≡ true)
 
 -- The calls of port p as its device end has them: with port 0.
 
@@ -62,12 +68,14 @@ abbrev pub of_port : ℕ → List Call → List Call
 of_port p [] = []
 of_port p (c ∷ cs) = own_call p c (of_port p cs)
 
-module _ {M S F : Type 0} (k : MasterModel M) (d : DeviceModel S) (codec : Codec F) (plan : Plan) (m : M) (xs : List (Side × S)) where
+module _ {M S F : Type 0} (k : MasterModel M) (d : DeviceModel S) (codec : Codec F) (plan : Plan) (m : M)
+    (xs : List (Side × S)) where
   abbrev pub device_starts : List (DeviceEnd S F)
   device_starts = map (λ (x : Side × S). device_start F x.0 x.1) xs
 
   abbrev pub start : StarWorld (HubEnd (MachineEnd M F)) (LeafEnd (DeviceEnd S F))
-  start = star_start (fresh_hub (machine_start F m (length xs) plan) (length device_starts)) (map fresh_leaf device_starts)
+  start =
+      star_start (fresh_hub (machine_start F m (length xs) plan) (length device_starts)) (map fresh_leaf device_starts)
 
   -- The world after a list of steps: turns of the ends, and deliveries.
   abbrev pub world : List StarStep → StarWorld (HubEnd (MachineEnd M F)) (LeafEnd (DeviceEnd S F))

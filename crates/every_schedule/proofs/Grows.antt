@@ -20,12 +20,12 @@ use Rattle.cosim_model.specs.Sessions.{take_packet, is_posted}
 use Rattle.cosim_model.specs.declared.session.Event.TheVariants.{Nothing, Met, Asked, Told, Answered, SyncDone}
 use Rattle.cosim_model.specs.declared.session.EndFault.{EndFault}
 use Rattle.ends_model.specs.declared.ends.OpenSync.{OpenSync}
-use Rattle.ends_model.specs.DeviceTurn.{DeviceEnd, is_device_size, is_answered, told, settle, settle_by, settle_want, next_of, joined, settled, acts, answer_read, answer_write, do_posted, answered_own, device_takes, device_judges, device_looks}
+use Rattle.ends_model.specs.DeviceTurn.{DeviceEnd, is_device_size, is_answered, told, settle, next_of, joined, settled, acts, answer_read, answer_write, do_posted, answered_own, device_takes, device_judges, device_looks}
 use Rattle.ends_model.specs.declared.ends.Phase.{Phase}
 use Rattle.ends_model.specs.MachineTurn.{MachineEnd, PortEnd, greeted, requested, machine_outlook, after_greet, to_meet, after_sync, is_due, first_true, is_unknown, least, held_time, machine_takes, machine_hears_at, machine_judges, on_event, hold_request, met, answered, if_over, gathered, is_clear, put_port, time_of}
 use Rattle.ends_model.specs.declared.ends.Phase.TheVariants.{Greet, Meet, Run, AnswerFrom, SyncTo, Gather, Done}
 use Rattle.ends_model.specs.World.{ends}
-use Rattle.every_schedule.proofs.Outlooks.{machine_looks, phase_outlook, greet_outlook, run_outlook, sync_outlook, unit_outlook, access_outlook, gather_outlook, serve_outlook, serve_port, serve_held, serve_packet}
+use Rattle.every_schedule.proofs.Outlooks.{machine_looks, phase_outlook, greet_outlook, run_outlook, sync_outlook, unit_outlook, access_outlook, gather_outlook, serve_outlook, serve_port, serve_held, serve_packet, settle_by, settle_want}
 
 whole : {X : Type 0} (xs : List X) → IsPrefix xs xs
 whole xs = ([], append-nil xs)

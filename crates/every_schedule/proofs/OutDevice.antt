@@ -16,10 +16,11 @@ use Rattle.cosim_model.specs.Packets.{Body, Packet, Decoded, Codec, is_response}
 use Rattle.cosim_model.specs.Packets.Body.{Nop, Hello, Cfg, Read, Write, Interrupt, Sync}
 use Rattle.cosim_model.specs.Packets.Decoded.{Valid, Malformed}
 use Rattle.cosim_model.specs.Sessions.{Session, is_posted, fault_of, counted, asked_at, event_of, judged, take_kept, take_packet, is_posted_body, unless_posted, request_sent}
-use Rattle.ends_model.specs.DeviceTurn.{DeviceEnd, body_len, is_answered, is_device_size, want_body, answer_read, answer_write, do_posted, answered_own, acts, own_sent, told, settle_want, settle_by, settle, joined, next_of, device_judges, device_takes, device_looks}
+use Rattle.ends_model.specs.DeviceTurn.{DeviceEnd, body_len, is_answered, is_device_size, want_body, answer_read, answer_write, do_posted, answered_own, acts, own_sent, told, settle, joined, next_of, device_judges, device_takes, device_looks}
 use Rattle.ends_model.specs.MachineTurn.{MachineEnd}
 use Rattle.ends_model.specs.Traffic.{leaf_after, leaf_sends, sent_in, out_device}
 use Rattle.ends_model.specs.World.{ends}
+use Rattle.every_schedule.proofs.Outlooks.{settle_want, settle_by}
 
 -- No packet changes whether the hello went.
 

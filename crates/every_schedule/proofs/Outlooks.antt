@@ -1,12 +1,15 @@
--- What a machine end does, as outlooks by what it looks at: the steps by which the proofs compute a turn.
-use Rattle.std.specs.Prelude.{ℕ, Bool, List, Option}
+-- What an end does by what it looks at: the steps by which the proofs compute a turn.
+use Rattle.std.specs.Prelude.{ℕ, Bool, true, ◌&&◌, List, Option, Some, is_none, option_map}
 use Rattle.process_network.specs.PacketStar.{HubOutlook}
 use Rattle.cosim_model.specs.declared.values.Access.{Access}
 use Rattle.cosim_model.specs.declared.values.Bus.{Bus}
 use Rattle.cosim_model.specs.declared.session.EndFault.{EndFault}
-use Rattle.cosim_model.specs.Parts.{MasterModel}
+use Rattle.cosim_model.specs.declared.values.Want.{Want}
+use Rattle.cosim_model.specs.Parts.{DeviceModel, MasterModel}
 use Rattle.cosim_model.specs.Packets.{Packet, Decoded}
+use Rattle.ends_model.specs.declared.ends.OpenSync.{OpenSync}
 use Rattle.ends_model.specs.declared.ends.Phase.{Phase}
+use Rattle.ends_model.specs.DeviceTurn.{DeviceEnd, Settling, settle_as, with_kind}
 use Rattle.ends_model.specs.MachineTurn.{MachineEnd, PortEnd, outlook_of, at_port, greets, syncs, accesses, works, runs, serves, serves_held, serves_least, gathers, acts_in, acts_unless}
 
 module _ {M F : Type 0} (k : MasterModel M) where
@@ -45,3 +48,12 @@ module _ {M F : Type 0} (k : MasterModel M) where
 
   abbrev pub machine_looks : MachineEnd M F → Option (ℕ × EndFault F) → HubOutlook (MachineEnd M F) (Decoded F)
   machine_looks h fault = outlook_of (acts_unless k h fault)
+
+module _ {S F : Type 0} (d : DeviceModel S) where
+  -- settling by the hello, the own request that is out, what is wanted, and the sync that is open
+  abbrev pub settle_by : DeviceEnd S F → Bool → Option Want → Option Want → Option OpenSync → Settling S F
+  settle_by e came own want open_sync = settle_as d e (came && is_none own) (option_map (with_kind d e) want) open_sync
+
+  -- a want, by whether it is answered
+  abbrev pub settle_want : DeviceEnd S F → Want → Option OpenSync → Bool → Settling S F
+  settle_want e w open_sync answered = settle_as d e true (Some (w, answered)) open_sync

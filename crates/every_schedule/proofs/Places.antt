@@ -27,13 +27,13 @@ use Rattle.cosim_model.proofs.Streams.{one_more}
 use Rattle.ends_model.specs.declared.ends.OpenSync.{OpenSync}
 use Rattle.ends_model.specs.declared.ends.Phase.{Phase}
 use Rattle.ends_model.specs.declared.ends.Phase.TheVariants.{Greet, Meet, Run, AnswerFrom, SyncTo, Gather, Done}
-use Rattle.ends_model.specs.DeviceTurn.{DeviceEnd, is_device_size, is_answered, told, settle, settle_by, settle_want, next_of, joined, acts, answer_read, answer_write, do_posted, answered_own, device_takes, device_judges, device_looks}
+use Rattle.ends_model.specs.DeviceTurn.{DeviceEnd, is_device_size, is_answered, told, settle, next_of, joined, acts, answer_read, answer_write, do_posted, answered_own, device_takes, device_judges, device_looks}
 use Rattle.ends_model.specs.MachineTurn.{MachineEnd, PortEnd, greeted, requested, after_greet, to_meet, after_sync, is_due, first_true, is_unknown, least, held_time, machine_takes, machine_hears_at, machine_judges, on_event, hold_request, met, answered, if_over, gathered, is_clear, put_port, time_of, waits_at}
 use Rattle.ends_model.specs.World.{Side, ends, device_start, machine_start}
 use Rattle.process_network.proofs.HubHalted.{none_past}
 use Rattle.every_schedule.specs.Places.{cause_at}
 use Rattle.every_schedule.proofs.Base.{same_number}
-use Rattle.every_schedule.proofs.Outlooks.{machine_looks, phase_outlook, greet_outlook, run_outlook, sync_outlook, unit_outlook, access_outlook, gather_outlook, serve_outlook, serve_port, serve_held, serve_packet}
+use Rattle.every_schedule.proofs.Outlooks.{machine_looks, phase_outlook, greet_outlook, run_outlook, sync_outlook, unit_outlook, access_outlook, gather_outlook, serve_outlook, serve_port, serve_held, serve_packet, settle_by, settle_want}
 
 module _ {M S F : Type 0} (k : MasterModel M) (d : DeviceModel S) (codec : Codec F) where
   -- The device end.

@@ -4,8 +4,9 @@ use Rattle.cosim_model.specs.declared.values.Want.{Want}
 use Rattle.cosim_model.specs.Parts.{DeviceModel, IsDevice}
 use Rattle.cosim_model.specs.Packets.{Packet}
 use Rattle.ends_model.specs.declared.ends.OpenSync.{OpenSync}
-use Rattle.ends_model.specs.DeviceTurn.{DeviceEnd, is_answered, settled, settle, settle_by, settle_want, next_of, joined, asked, told, closed, sync_answer, own_request, bare_reply}
+use Rattle.ends_model.specs.DeviceTurn.{DeviceEnd, is_answered, settled, settle, next_of, joined, asked, told, closed, sync_answer, own_request, bare_reply}
 use Rattle.every_schedule.specs.Wires.{Wire, unsettled, open_if, sync_ticket}
+use Rattle.every_schedule.proofs.Outlooks.{settle_by, settle_want}
 
 module _ {S : Type 0} (F : Type 0) (d : DeviceModel S) where
   abbrev E : Type 0

@@ -13,7 +13,8 @@ use Rattle.cosim_model.specs.declared.session.Event.{Event}
 use Rattle.cosim_model.specs.Sessions.{Session, fault_of, or_else, fault_if, judged, take_kept, event_of, asked_at, is_posted, counted, ticket_of, flood, hello_missing, hello_again, wrong_version, hello_lacks, unsupported, stray_answer, is_answer_of}
 use Rattle.cosim_model.specs.declared.session.SessionFault.TheVariants as session_fault
 use Rattle.ends_model.specs.declared.ends.OpenSync.{OpenSync}
-use Rattle.ends_model.specs.DeviceTurn.{DeviceEnd, is_device_size, is_answered, told, settle, settle_by, settle_want, next_of, joined, then_settled, acts, answer_read, answer_write, do_posted, answered_own, device_takes, device_took}
+use Rattle.ends_model.specs.DeviceTurn.{DeviceEnd, is_device_size, is_answered, told, settle, next_of, joined, then_settled, acts, answer_read, answer_write, do_posted, answered_own, device_takes, device_took}
+use Rattle.every_schedule.proofs.Outlooks.{settle_by, settle_want}
 
 -- No own request is out, also for the session.
 abbrev pub IsMatched : {S F : Type 0} → DeviceEnd S F → Type 0

@@ -1,5 +1,6 @@
 -- What the steps of a run are counted by.
-use Rattle.std.specs.Prelude.{ℕ, zero, suc, ◌+◌, ◌&&◌, Bool, true, false, List, [], ◌∷◌, length, drop, Option, Some, None, slice_get}
+use Rattle.std.specs.Prelude.{ℕ, zero, suc, ◌+◌, ◌&&◌, Bool, true, false, List, [], ◌∷◌, length, drop, Option, Some}
+use Rattle.std.specs.Prelude.{None, slice_get}
 use Rattle.cosim_model.specs.declared.values.Call.TheVariants as call
 use Rattle.cosim_model.specs.declared.values.Want.{Want}
 use Rattle.cosim_model.specs.Packets.{Decoded, Codec}

@@ -53,14 +53,33 @@ machine_session w held = record {
 
 module _ {S : Type 0} (F : Type 0) (d : DeviceModel S) where
   abbrev pub port_of : Wire S → PortEnd
-  port_of w = record { session = machine_session w (front w.held (sends_of F d w)); held = front w.held (sends_of F d w); last = w.last }
+  port_of w = record {
+    session = machine_session w (front w.held (sends_of F d w));
+    held = front w.held (sends_of F d w);
+    last = w.last;
+  }
 
   abbrev pub post_of : Wire S → PacketLink (DeviceEnd S F) (Decoded F)
-  post_of w = record { leaf = (settled d (unsettled w)).0; out_taken = map Valid w.out; out_waiting = []; back_taken = map Valid w.back; back_waiting = map Valid (unread F d w) }
+  post_of w = record {
+    leaf = (settled d (unsettled w)).0;
+    out_taken = map Valid w.out;
+    out_waiting = [];
+    back_taken = map Valid w.back;
+    back_waiting = map Valid (unread F d w);
+  }
 
 abbrev pub mirror : {M S : Type 0} → (F : Type 0) → DeviceModel S → Plan → Phase → Bool → Direct M (Wire S)
     → PacketWorld (MachineEnd M F) (DeviceEnd S F) (Decoded F)
 mirror F d plan phase marked r = record {
-  hub = record { plan = plan; phase = phase; master = r.master; ports = map (port_of F d) r.devices; calls = r.calls; tick = r.tick; marked = marked; fault = None };
+  hub = record {
+    plan = plan;
+    phase = phase;
+    master = r.master;
+    ports = map (port_of F d) r.devices;
+    calls = r.calls;
+    tick = r.tick;
+    marked = marked;
+    fault = None;
+  };
   links = map (post_of F d) r.devices;
 }

@@ -1,5 +1,6 @@
 -- What every schedule of turns and deliveries gives, against the run of the direct machine.
-use Rattle.std.specs.Prelude.{◌≡◌, ℕ, ◌+◌, ◌-◌, ◌*◌, ◌≤◌, ◌⊎◌, true, List, [], length, map, drop, get_or, Option, Some, None, slice_get}
+use Rattle.std.specs.Prelude.{◌≡◌, ℕ, ◌+◌, ◌-◌, ◌*◌, ◌≤◌, ◌⊎◌, true, List, [], length, map, drop, get_or, Option, Some}
+use Rattle.std.specs.Prelude.{None, slice_get}
 use Rattle.process_network.specs.Network.{IsPrefix, Streams, sum_below}
 use Rattle.process_network.specs.Star.{StarWorld, StarStep, star_effective, star_effective_steps, hub_received, link}
 use Rattle.process_network.specs.StarTalk.{IsHubRun, StarTalk}
@@ -15,7 +16,8 @@ use Rattle.ends_model.specs.Traffic.{wire_out, out_device}
 use Rattle.ends_model.specs.World.{Side, ends, machine_start, device_start, of_port, start, world}
 use Rattle.every_schedule.specs.Counts.{accesses_in, lonely_in, posted_in, packets_in}
 
-module _ {M S F : Type 0} (k : MasterModel M) (d : DeviceModel S) (codec : Codec F) (plan : Plan) (m : M) (xs : List (Side × S)) where
+module _ {M S F : Type 0} (k : MasterModel M) (d : DeviceModel S) (codec : Codec F) (plan : Plan) (m : M)
+    (xs : List (Side × S)) where
   abbrev pub directly : Direct M S
   directly = direct k d plan m (map (λ (x : Side × S). x.1) xs)
 
@@ -34,7 +36,8 @@ module _ {M S F : Type 0} (k : MasterModel M) (d : DeviceModel S) (codec : Codec
     pub calls : w.hub.core.calls ≡ directly.calls
     pub tick : w.hub.core.tick ≡ directly.tick
     pub devices : map (λ (l : LeafEnd (DeviceEnd S F)). l.core.device) w.leaves ≡ directly.devices
-    pub device_calls : (p : ℕ) (l : LeafEnd (DeviceEnd S F)) → slice_get w.leaves p ≡ Some l → l.core.calls ≡ of_port p directly.calls
+    pub device_calls :
+        (p : ℕ) (l : LeafEnd (DeviceEnd S F)) → slice_get w.leaves p ≡ Some l → l.core.calls ≡ of_port p directly.calls
     pub out : (p : ℕ) (x : Side × S) → slice_get xs p ≡ Some x → (link w p).out ≡ bytes_out p x
     pub back : (p : ℕ) (x : Side × S) → slice_get xs p ≡ Some x → (link w p).back ≡ bytes_back p x
 
@@ -60,14 +63,15 @@ module _ {M S F : Type 0} (k : MasterModel M) (d : DeviceModel S) (codec : Codec
         → slice_get (world k d codec plan m xs ss).leaves p ≡ Some l → slice_get xs p ≡ Some x → l.core.fault ≡ None
     -- some step is effective, or all is as the direct machine leaves it
     pub goes_on : (ss : List StarStep)
-        → IsEnd (world k d codec plan m xs ss) ⊎ ((s : StarStep) × (star_effective (star_of (ends k d codec)) (world k d codec plan m xs ss) s ≡ true))
+        → IsEnd (world k d codec plan m xs ss)
+        ⊎ ((s : StarStep) × (star_effective (star_of (ends k d codec)) (world k d codec plan m xs ss) s ≡ true))
     -- when the machine end is done, all is as the direct machine leaves it, and nothing is in flight
     pub ends_there : (ss : List StarStep) → (world k d codec plan m xs ss).hub.core.phase ≡ Done
         → IsEnd (world k d codec plan m xs ss) × IsDelivered (world k d codec plan m xs ss)
 
-  -- How many steps can be effective: the local units, the boundaries where there are no ports, the packets to the device ends twice
-  -- (each is sent and taken), their packets once and the posted wants that are served (for the machine end takes these, and serves),
-  -- a hello of each device end, and the bytes both ways.
+  -- How many steps can be effective: the local units, the boundaries where there are no ports, the packets to the
+  -- device ends twice (each is sent and taken), their packets once and the posted wants that are served (for the
+  -- machine end takes these, and serves), a hello of each device end, and the bytes both ways.
 
   abbrev pub of_side : (ℕ → Side × S → ℕ) → ℕ → Option (Side × S) → ℕ
   of_side f p None = 0
@@ -91,10 +95,11 @@ module _ {M S F : Type 0} (k : MasterModel M) (d : DeviceModel S) (codec : Codec
       + over_ports (λ p x. length (bytes_back p x))
 
   abbrev pub IsBounded : Type 0
-  IsBounded = (ss : List StarStep) → star_effective_steps (star_of (ends k d codec)) (start k d codec plan m xs) ss ≤ most_steps
+  IsBounded =
+      (ss : List StarStep) → star_effective_steps (star_of (ends k d codec)) (start k d codec plan m xs) ss ≤ most_steps
 
-  -- When the machine end is about to send on a port, what the device end of that port has sent and the machine end has not taken is
-  -- no more than one packet that can be written, of at most 208 bytes.
+  -- When the machine end is about to send on a port, what the device end of that port has sent and the machine end
+  -- has not taken is no more than one packet that can be written, of at most 208 bytes.
 
   abbrev pub untaken : StarWorld (HubEnd (MachineEnd M F)) (LeafEnd (DeviceEnd S F)) → ℕ → List ℕ
   untaken w p = drop (get_or w.hub.taken p 0) (link w p).back
@@ -105,7 +110,8 @@ module _ {M S F : Type 0} (k : MasterModel M) (d : DeviceModel S) (codec : Codec
 
   abbrev pub HasRoom : Type 0
   HasRoom = (ss : List StarStep) (next : HubEnd (MachineEnd M F)) (p : ℕ) (bytes : List ℕ)
-      → (star_of (ends k d codec)).hub_turn (world k d codec plan m xs ss).hub (hub_received (world k d codec plan m xs ss))
+      → (star_of (ends k d codec)).hub_turn (world k d codec plan m xs ss).hub
+      (hub_received (world k d codec plan m xs ss))
       ≡ Some (next, Some (p, bytes))
       → IsOneAtMost (untaken (world k d codec plan m xs ss) p)
 
@@ -113,7 +119,9 @@ module _ {M S F : Type 0} (k : MasterModel M) (d : DeviceModel S) (codec : Codec
 
   -- Each link gives what the fresh device end of its port sends.
   pub record IsHonest (said : ℕ → List ℕ → List ℕ) : Type 0 where
-    pub port : (p : ℕ) (x : Side × S) → slice_get xs p ≡ Some x → (y : List ℕ) → said p y ≡ out_device d codec (device_start F x.0 x.1) y
+    pub port :
+        (p : ℕ) (x : Side × S) → slice_get xs p ≡ Some x → (y : List ℕ)
+        → said p y ≡ out_device d codec (device_start F x.0 x.1) y
     pub none : (p : ℕ) → slice_get xs p ≡ None → (y : List ℕ) → said p y ≡ []
 
   -- What comes back on port p in all.
@@ -127,7 +135,9 @@ module _ {M S F : Type 0} (k : MasterModel M) (d : DeviceModel S) (codec : Codec
 
   -- The machine end over received bytes x is at h after some turns, and has sent these bytes.
   abbrev pub IsMachineRun : Streams → ℕ → HubEnd (MachineEnd M F) → Streams → Type 0
-  IsMachineRun x turns h sent = IsHubRun (star_of (ends k d codec)) (length xs) (fresh_hub (machine_start F m (length xs) plan) (length xs)) x turns h sent
+  IsMachineRun x turns h sent =
+      IsHubRun (star_of (ends k d codec)) (length xs) (fresh_hub (machine_start F m (length xs) plan) (length xs))
+      x turns h sent
 
   -- The machine end is done, as the direct machine is, and has sent the traffic.
   pub record IsDriven (h : HubEnd (MachineEnd M F)) (sent : Streams) : Type 0 where
@@ -148,7 +158,8 @@ module _ {M S F : Type 0} (k : MasterModel M) (d : DeviceModel S) (codec : Codec
         → (star_of (ends k d codec)).hub_turn h (λ p. said p (sent p)) ≡ None → IsDriven h sent
     -- its talk with them has its fixed point there
     pub talk : (rounds : ℕ) (x : Streams)
-        → StarTalk (star_of (ends k d codec)) (length xs) (fresh_hub (machine_start F m (length xs) plan) (length xs)) said rounds x
+        → StarTalk (star_of (ends k d codec)) (length xs)
+        (fresh_hub (machine_start F m (length xs) plan) (length xs)) said rounds x
         → (turns : ℕ) (h : HubEnd (MachineEnd M F)) (sent : Streams) → IsMachineRun x turns h sent
         → (star_of (ends k d codec)).hub_turn h x ≡ None → ((p : ℕ) → x p ≡ said p (sent p)) → IsDriven h sent
         × ((p : ℕ) → x p ≡ back_at p (slice_get xs p))

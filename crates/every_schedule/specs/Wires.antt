@@ -13,7 +13,8 @@ use Rattle.cosim_model.specs.Parts.{DeviceModel}
 use Rattle.cosim_model.specs.Packets.{BusFields, Body, Packet}
 use Rattle.cosim_model.specs.Packets.Body.{Read, Write, Sync}
 use Rattle.cosim_model.specs.declared.session.Ticket.{Ticket}
-use Rattle.cosim_model.specs.Sessions.{Session, fresh_session, next_number, hello_of, request_flags, answer_of, ticket_of, is_posted}
+use Rattle.cosim_model.specs.Sessions.{Session, fresh_session, next_number, hello_of, request_flags, answer_of}
+use Rattle.cosim_model.specs.Sessions.{ticket_of, is_posted}
 use Rattle.cosim_model.specs.declared.session.Role.TheVariants.{Machine, Device}
 use Rattle.ends_model.specs.declared.ends.OpenSync.{OpenSync}
 use Rattle.ends_model.specs.World.{Side}
@@ -21,10 +22,11 @@ use Rattle.ends_model.specs.Traffic.{reply_body}
 use Rattle.ends_model.specs.DeviceTurn.{DeviceEnd, settled, answer_fields}
 use Rattle.ends_model.specs.MachineTurn.{access_body, access_fields, time_of}
 
--- `next` is the machine's next number, `asks` the number of the device's present request, or of its next one. `held`: the
--- machine has taken that request. `synced`: the machine has not taken the answer of its sync, whose number is `sync_id`.
--- `last` is the time of the machine's latest request, `heard` that of the device's latest one that was taken, and `count` is the
--- packets of this wait. `out` is the packets to the device, `back` those of the device that the machine has taken.
+-- `next` is the machine's next number, `asks` the number of the device's present request, or of its next one. `held`:
+-- the machine has taken that request. `synced`: the machine has not taken the answer of its sync, whose number is
+-- `sync_id`. `last` is the time of the machine's latest request, `heard` that of the device's latest one that was
+-- taken, and `count` is the packets of this wait. `out` is the packets to the device, `back` those of the device that
+-- the machine has taken.
 pub record Wire (S : Type 0) : Type 0 where
   pub side : Side
   pub device : S
@@ -40,7 +42,8 @@ pub record Wire (S : Type 0) : Type 0 where
   pub back : List Packet
   pub calls : List Call
 
--- The device end at that port: what settling makes of the end whose device has its present want and whose request is not out.
+-- The device end at that port: what settling makes of the end whose device has its present want and whose request is
+-- not out.
 
 abbrev pub sync_ticket : ℕ → Ticket
 sync_ticket id = record { cmd = command.Sync; id = id; flags = 0; dev = 0 }
@@ -143,23 +146,34 @@ module _ {S : Type 0} (F : Type 0) (d : DeviceModel S) where
   -- An access. A request that is out is taken before the answer.
 
   abbrev pub access_packet : Wire S → ℕ → Access → Packet
-  access_packet w t a = record { id = w.next; flags = request_flags a.posted; dev = 0; body = access_body w.side.offer t a }
+  access_packet w t a = record {
+    id = w.next;
+    flags = request_flags a.posted;
+    dev = 0;
+    body = access_body w.side.offer t a;
+  }
 
   abbrev pub access_sent : Wire S → ℕ → Access → Wire S
   access_sent w t a = record w { next = next_number w.next; last = t; out = w.out ++ access_packet w t a ∷ [] }
 
   abbrev pub access_answer : Wire S → ℕ → Access → Answer → Packet
-  access_answer w t a x = answer_of (ticket_of (access_packet w t a)) (answer_body (access_fields w.side.offer t a) a.write x)
+  access_answer w t a x =
+      answer_of (ticket_of (access_packet w t a)) (answer_body (access_fields w.side.offer t a) a.write x)
 
   abbrev pub did_access : Wire S → ℕ → Access → Wire S
-  did_access w t a = record w { device = (d.access w.device t a).0; calls = w.calls ++ call.Access t 0 a (plain a (d.access w.device t a).1) ∷ [] }
+  did_access w t a = record w {
+    device = (d.access w.device t a).0;
+    calls = w.calls ++ call.Access t 0 a (plain a (d.access w.device t a).1) ∷ [];
+  }
 
   abbrev pub take_answer : Wire S → Packet → Wire S
   take_answer w m = record w { count = suc w.count; back = w.back ++ m ∷ [] }
 
   abbrev pub access_wire : Wire S → ℕ → Access → Bool → Wire S
   access_wire w t a true = did_access (access_sent w t a) t a
-  access_wire w t a false = take_answer (did_access (early (record (access_sent w t a) { count = 0 }) (unread F d w)) t a) (access_answer w t a (plain a (d.access w.device t a).1))
+  access_wire w t a false =
+      take_answer (did_access (early (record (access_sent w t a) { count = 0 }) (unread F d w)) t a)
+      (access_answer w t a (plain a (d.access w.device t a).1))
 
   -- A boundary's sync, after which the device settles.
 
@@ -167,7 +181,15 @@ module _ {S : Type 0} (F : Type 0) (d : DeviceModel S) where
   sync_packet w t = record { id = w.next; flags = 0; dev = 0; body = Sync t }
 
   abbrev pub sync_sent : Wire S → ℕ → Wire S
-  sync_sent w t = record w { device = d.advance w.device t; next = next_number w.next; synced = true; sync_id = w.next; last = t; count = 0; out = w.out ++ sync_packet w t ∷ [] }
+  sync_sent w t = record w {
+    device = d.advance w.device t;
+    next = next_number w.next;
+    synced = true;
+    sync_id = w.next;
+    last = t;
+    count = 0;
+    out = w.out ++ sync_packet w t ∷ [];
+  }
 
   -- A want that is served. The answer of an answered one goes out.
 
@@ -181,7 +203,13 @@ module _ {S : Type 0} (F : Type 0) (d : DeviceModel S) where
 
   abbrev pub fed_wire : Wire S → Reply → Option Want → List Packet → Wire S
   fed_wire w r None ms = w
-  fed_wire w r (Some v) ms = record w { device = d.feed w.device r; asks = next_number w.asks; held = false; out = w.out ++ replies_to r w.side.offer ms; calls = w.calls ++ call.Served (d.seen w.device) 0 (d.due w.device) v r ∷ [] }
+  fed_wire w r (Some v) ms = record w {
+    device = d.feed w.device r;
+    asks = next_number w.asks;
+    held = false;
+    out = w.out ++ replies_to r w.side.offer ms;
+    calls = w.calls ++ call.Served (d.seen w.device) 0 (d.due w.device) v r ∷ [];
+  }
 
   abbrev pub wired : DeviceModel (Wire S)
   wired = record {
