@@ -3,7 +3,7 @@
 
 mod config;
 mod fault;
-mod judging;
+mod judgement;
 mod keys;
 mod machine;
 mod name;
@@ -13,7 +13,7 @@ mod words;
 
 pub use config::{Config, MachineKind, PortConfig, PortKind, Ports, Sockets};
 pub use fault::{ConfigFault, TableName};
-pub use judging::judge;
+pub use judgement::judge;
 pub use name::Name;
 
 #[cfg(test)]

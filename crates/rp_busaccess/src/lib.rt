@@ -9,7 +9,7 @@ mod fault;
 mod layout;
 #[cfg(test)]
 mod tests;
-mod writing;
+mod writer;
 
 pub use bus::BusAccess;
 pub use fault::{BusFault, WriteFault};

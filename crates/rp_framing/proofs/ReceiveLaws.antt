@@ -7,9 +7,9 @@ use Rattle.cos_base.specs.declared.links.Got.TheVariants as got
 use Rattle.rp_packet.specs.declared.fault.PacketFault.{PacketFault}
 use Rattle.rp_packet.specs.Refusals.{first}
 use Rattle.rp_framing.specs.declared.fault.Truncated.{Truncated}
-use Rattle.rp_framing.specs.declared.receiving.ReceiveFault.{ReceiveFault}
-use Rattle.rp_framing.specs.declared.receiving.ReceiveFault.TheVariants as receive
-use Rattle.rp_framing.specs.declared.receiving.Pulled.TheVariants as pulled
+use Rattle.rp_framing.specs.declared.receiver.ReceiveFault.{ReceiveFault}
+use Rattle.rp_framing.specs.declared.receiver.ReceiveFault.TheVariants as receive
+use Rattle.rp_framing.specs.declared.receiver.Pulled.TheVariants as pulled
 use Rattle.rp_framing.specs.Framing.{Frames, Feeds, FedAt, Nexts, NextAt}
 use Rattle.rp_framing.specs.Receiving.{Came, CamePartly, CameAll, Receives, Goes, Pulls}
 

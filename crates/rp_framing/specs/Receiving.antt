@@ -5,10 +5,10 @@ use Rattle.cos_base.specs.Links.{Wire}
 use Rattle.rp_packet.specs.declared.packet.Packet.{Packet}
 use Rattle.rp_packet.specs.Refusals.{first}
 use Rattle.rp_framing.specs.declared.fault.FrameFault.TheVariants as frame
-use Rattle.rp_framing.specs.declared.receiving.Pulled.{Pulled}
-use Rattle.rp_framing.specs.declared.receiving.Pulled.TheVariants as pulled
-use Rattle.rp_framing.specs.declared.receiving.ReceiveFault.{ReceiveFault}
-use Rattle.rp_framing.specs.declared.receiving.ReceiveFault.TheVariants.{Malformed, Truncated, Link, NoMemory}
+use Rattle.rp_framing.specs.declared.receiver.Pulled.{Pulled}
+use Rattle.rp_framing.specs.declared.receiver.Pulled.TheVariants as pulled
+use Rattle.rp_framing.specs.declared.receiver.ReceiveFault.{ReceiveFault}
+use Rattle.rp_framing.specs.declared.receiver.ReceiveFault.TheVariants.{Malformed, Truncated, Link, NoMemory}
 use Rattle.rp_framing.specs.Framing.{Frames, Feeds, Nexts}
 
 -- these bytes were received besides, and the link still tells

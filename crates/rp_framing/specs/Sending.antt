@@ -3,8 +3,8 @@ use Rattle.std.specs.Prelude.{◌≡◌, ℕ, List, ◌++◌, IfSome, MatchResul
 use Rattle.cos_base.specs.Counts.{Rises}
 use Rattle.cos_base.specs.Links.{Wire}
 use Rattle.cos_base.specs.Prefixes.{IsPrefix}
-use Rattle.rp_framing.specs.declared.sending.SendFault.{SendFault}
-use Rattle.rp_framing.specs.declared.sending.SendFault.TheVariants.{Link, NoMemory}
+use Rattle.rp_framing.specs.declared.sender.SendFault.{SendFault}
+use Rattle.rp_framing.specs.declared.sender.SendFault.TheVariants.{Link, NoMemory}
 
 -- a wire that told before, with these bytes sent besides
 abbrev pub Sent : Option Wire → Option Wire → List ℕ → Type 0

@@ -4,13 +4,13 @@
 mod fault;
 mod framer;
 mod front;
-mod receiving;
-mod sending;
+mod receiver;
+mod sender;
 #[cfg(test)]
 mod tests;
 
 pub use fault::{FrameFault, Truncated};
 pub use framer::Framer;
 pub use front::front_of;
-pub use receiving::{ReceiveFault, receive};
-pub use sending::{SendFault, send};
+pub use receiver::{ReceiveFault, receive};
+pub use sender::{SendFault, send};

@@ -1,6 +1,6 @@
 use Rattle.std.proofs.Common.{arith, length-drop, ◌∙◌}
 use Rattle.rp_framing.proofs.SendLaws.{Sent-more}
-use Rattle.rp_framing.proofs.sending.send.Goals as goal
+use Rattle.rp_framing.proofs.sender.send.Goals as goal
 
 pub pieces-preserved : goal.pieces-preserved
 pieces-preserved g c =

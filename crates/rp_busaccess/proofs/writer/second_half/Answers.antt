@@ -1,5 +1,5 @@
 use Rattle.rp_header.specs.Numbers.{be}
-use Rattle.rp_busaccess.proofs.writing.second_half.Goals as goal
+use Rattle.rp_busaccess.proofs.writer.second_half.Goals as goal
 
 pub returns : goal.returns
 unfolding be

@@ -1,6 +1,6 @@
 use Rattle.std.proofs.Common.{◌∙◌}
 use Rattle.rp_framing.proofs.ReceiveLaws.{goes-more, gives-failure}
-use Rattle.rp_framing.proofs.receiving.receive.Goals as goal
+use Rattle.rp_framing.proofs.receiver.receive.Goals as goal
 
 pub reads-preserved : goal.reads-preserved
 reads-preserved g c =

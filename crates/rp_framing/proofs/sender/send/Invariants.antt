@@ -1,6 +1,6 @@
 use Rattle.std.proofs.Common.{length, take, ◌-◌, ◌≡◌, ◌≤◌}
 use Rattle.rp_framing.specs.Sending.{Sent}
-use Rattle.rp_framing.proofs.sending.send.Given as goal
+use Rattle.rp_framing.proofs.sender.send.Given as goal
 
 abbrev pub invariant-pieces : goal.invariant-pieces
 invariant-pieces g l =

@@ -1,6 +1,6 @@
 use Rattle.std.proofs.Common.{◌≡◌, ◌-◌, length}
 use Rattle.rp_framing.specs.Receiving.{Goes}
-use Rattle.rp_framing.proofs.receiving.receive.Given as goal
+use Rattle.rp_framing.proofs.receiver.receive.Given as goal
 
 abbrev pub invariant-reads : goal.invariant-reads
 invariant-reads g l = record {

@@ -1,7 +1,7 @@
 use Rattle.std.proofs.Common.{length, ap, arith}
 use Rattle.rp_framing.specs.FrontLaws.{first-few}
 use Rattle.rp_framing.specs.CutLaws.{waits}
-use Rattle.rp_framing.proofs.receiving.pull.Goals as goal
+use Rattle.rp_framing.proofs.receiver.pull.Goals as goal
 
 pub read-requires : goal.read-requires
 read-requires g c =

@@ -76,7 +76,7 @@ fn read_ports(alloc: Global, entries: &Array, sockets: Sockets) -> Result<Ports,
 }
 
 /// The table `machine`.
-fn read_machine<'a>(keys: &Keys<'a>) -> Result<&'a Table, ConfigFault>
+fn judge_machine<'a>(keys: &Keys<'a>) -> Result<&'a Table, ConfigFault>
     requires { keys.now.name ≡ TableName.Top }
     ensures ok { IfOk result (λ t. (machine_found (get_member (codes "machine") (table_view keys.now.table.now)) ≡ None)
         × (table_view t.now ≡ machine_table (table_view keys.now.table.now))) }
@@ -149,7 +149,7 @@ fn judge_table(alloc: Global, table: &Table, sockets: Sockets) -> Result<Config,
         table,
     };
     keys.only(&["machine", "port"])?;
-    let machine_table = read_machine(&keys)?;
+    let machine_table = judge_machine(&keys)?;
     let entries = read_entries(&keys)?;
     let machine = machine::machine(alloc, machine_table)?;
     let ports = read_few_ports(alloc, entries, sockets)?;
