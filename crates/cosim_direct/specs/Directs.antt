@@ -12,8 +12,9 @@ use Rattle.cos_parts.specs.declared.any_master.AnyMaster.{AnyMaster}
 use Rattle.cos_parts.specs.declared.any_device.AnyDevice.{AnyDevice}
 use Rattle.cos_parts.specs.AnyMasters as masters
 use Rattle.cos_parts.specs.AnyDevices as devices
-use Rattle.cosim_status.specs.declared.status.Status.TheVariants.{Config}
-use Rattle.cosim_status.specs.Outcomes.{Outcome, Lacks, Refuses, Prints}
+use Rattle.outcomes.specs.Outcomes.{Outcome, Lacks, Refuses, Works}
+use Rattle.cosim_inputs.specs.declared.refusals.InputsRefusal.{InputsRefusal}
+use Rattle.cosim_inputs.specs.declared.refusals.InputsRefusal.TheVariants.{Config}
 use Rattle.cosim_inputs.specs.Fresh.{master_of, devices_of}
 use Rattle.cosim_inputs.specs.Inputs.{trouble, machine_files}
 use Rattle.cosim_inputs.specs.Judging.{judged}
@@ -26,20 +27,20 @@ plan_of c = record { quantum = c.quantum; units = c.units }
 abbrev pub machine_of : Store → Settings → Direct AnyMaster AnyDevice
 machine_of m c = direct masters.any_model devices.any_model (plan_of c) (master_of m c) (devices_of m c.ports)
 
-abbrev pub or_printed : Option Outcome → List ℕ → Outcome
+abbrev pub or_printed : Option (Outcome InputsRefusal) → List ℕ → Outcome InputsRefusal
 or_printed (Some stands) text = stands
-or_printed None text = Prints text
+or_printed None text = Works [] text
 
 -- A configuration's files are read, and the text of the run is printed; or the configuration is refused.
-abbrev pub judged_to : Store → Result Settings ConfigFault → Outcome
+abbrev pub judged_to : Store → Result Settings ConfigFault → Outcome InputsRefusal
 judged_to m (Ok c) = or_printed (trouble m (machine_files c)) (run_lines (machine_of m c) c.ports)
 judged_to m (Err f) = Refuses (Config f) []
 
-abbrev pub found_to : Store → List ℕ → Option (List ℕ) → Outcome
+abbrev pub found_to : Store → List ℕ → Option (List ℕ) → Outcome InputsRefusal
 found_to m name None = Lacks name
 found_to m name (Some bytes) = judged_to m (judged Unneeded bytes)
 
 -- Over files that tell nothing it may come to anything.
-abbrev pub DirectComes : Option Store → List ℕ → Outcome → Type 0
+abbrev pub DirectComes : Option Store → List ℕ → Outcome InputsRefusal → Type 0
 DirectComes None name o = Unit {0}
 DirectComes (Some m) name o = o ≡ found_to m name (m name)

@@ -9,7 +9,7 @@ use Rattle.cos_config.specs.declared.config.Config.{Config}
 use Rattle.cos_config.specs.declared.config.Sockets.{Sockets}
 use Rattle.cos_config.specs.declared.fault.ConfigFault.{ConfigFault}
 use Rattle.cos_config.specs.declared.fault.ConfigFault.TheVariants.{Text, NoMemory}
-use Rattle.cos_config.specs.First.{Found, Refuses}
+use Rattle.cos_config.specs.First.{Found}
 use Rattle.cos_config.specs.Judged.{IsToml}
 use Rattle.cos_config.specs.Reading.{Reads}
 use Rattle.cos_config.specs.Rules.{config_found}

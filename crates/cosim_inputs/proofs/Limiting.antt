@@ -1,5 +1,5 @@
 use Rattle.std.specs.Prelude.{map, is_some, option_map, option_and_then, unwrap_or, codes, nat_le, nat_eq, ◌&&◌, if◌then◌else◌, nat_lt, IsSome, ℤ, pos, negsuc}
-use Rattle.std.proofs.Common.{ℕ, ◌≡◌, ◌+◌, ◌%◌, ◌<◌, ◌≤◌, zero, suc, Bool, true, false, List, [], ◌∷◌, ◌++◌, length, Option, Some, None, refl, sym, ap, ◌∙◌, subst, arith}
+use Rattle.std.proofs.Common.{ℕ, ◌≡◌, ◌+◌, ◌%◌, ◌≤◌, suc, Bool, true, false, List, [], ◌∷◌, length, Option, Some, None, refl, sym, ap, ◌∙◌, subst, arith}
 use Rattle.std.proofs.lemmas.Bool.{leb-true, eqb-true, ltb-false}
 use Rattle.toml.specs.Data.{Data, string, integer, Members, get_member}
 use Rattle.cos_config.specs.declared.config.MachineKind.{MachineKind}
@@ -12,7 +12,7 @@ use Rattle.cos_config.specs.declared.fault.TableName.{TableName}
 use Rattle.cos_config.specs.declared.fault.TableName.TheVariants.{Machine, Port as PortTable}
 use Rattle.cos_config.specs.declared.fault.ConfigFault.TheVariants.{TooMany}
 use Rattle.cos_config.specs.First.{Found, or_else, first_of}
-use Rattle.cos_config.specs.Keys.{Shape, A_word, A_number, A_text, Key, is_within, number_in, number_found, value_found, at_found, key_found, name_of, unknown_found, keys_found, table_found}
+use Rattle.cos_config.specs.Keys.{A_word, A_number, A_text, Key, is_within, number_in, number_found, value_found, at_found, key_found, name_of, unknown_found, keys_found, table_found}
 use Rattle.cos_config.specs.Tables.{as_text, text_at, machine_kind_of, port_kind_of, machine_kind_at, port_kind_at, required_key, optional_key, machine_keys, port_keys}
 use Rattle.cos_config.specs.Settings.{number_at, port_with, port_of, ports_of, config_with, machine_of, machine_table, port_tables, config_of}
 use Rattle.cos_map.specs.Parts.{overlap_found}

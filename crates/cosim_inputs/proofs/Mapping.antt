@@ -1,11 +1,10 @@
 -- The windows of a configuration that breaks no rule make a map.
 use Rattle.std.specs.Prelude.{nat_eq, not, ◌||◌, if◌then◌else◌, option_map}
-use Rattle.std.proofs.Common.{ℕ, ◌≡◌, ◌+◌, ◌%◌, ◌<◌, ◌≤◌, Bool, true, false, List, [], ◌∷◌, length, Option, Some, None, refl, ap, sym, ◌∙◌, subst, arith, eq-eqb}
+use Rattle.std.proofs.Common.{ℕ, ◌≡◌, ◌+◌, ◌%◌, Bool, true, false, List, [], ◌∷◌, Option, Some, None, refl, ap, sym, ◌∙◌, arith, eq-eqb}
 use Rattle.std.proofs.lemmas.Bool.{ne_eqb}
 use Rattle.cos_config.specs.declared.config.Config.{Config}
 use Rattle.cos_config.specs.declared.config.PortConfig.{PortConfig}
 use Rattle.cos_config.specs.Rules as rules
-use Rattle.sys_bus.specs.declared.map.Window.{Window}
 use Rattle.sys_bus.specs.declared.map.MapFault.{MapFault}
 use Rattle.sys_bus.specs.declared.map.MapFault.TheVariants.{Misaligned}
 use Rattle.cos_map.specs.Parts.{overlap_found, with_windows}

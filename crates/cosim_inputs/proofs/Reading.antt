@@ -1,19 +1,17 @@
 -- Files that are read one after another.
-use Rattle.std.proofs.Common.{ℕ, ◌≡◌, ◌+◌, ◌<◌, ◌≤◌, zero, suc, map, List, [], ◌∷◌, ◌++◌, length, take, drop, get_or, IfSome, IsSomeAnd, IsSome, refl, ap, sym, ◌∙◌, subst, arith, append_assoc, add_assoc}
+use Rattle.std.proofs.Common.{ℕ, ◌≡◌, ◌+◌, ◌<◌, zero, suc, map, List, [], ◌∷◌, ◌++◌, length, take, drop, get_or, IfSome, IsSomeAnd, IsSome, refl, ap, sym, ◌∙◌, subst, arith, append_assoc}
 use Rattle.std.proofs.lemmas.List.{append-nil, take-append-drop, take_more, length-take, map-append}
 use Rattle.std.specs.declared.option.Option.{Option}
 use Rattle.std.specs.declared.option.Option.TheVariants.{Some, None}
-use Rattle.cos_base.specs.Counts.{Rose}
 use Rattle.cos_base.specs.Stores.{Store}
 use Rattle.cos_config.specs.declared.config.PortConfig.{PortConfig}
-use Rattle.cosim_status.specs.declared.status.InputFault.{InputFault}
-use Rattle.cosim_status.specs.declared.status.Status.{Status}
-use Rattle.cosim_status.specs.declared.status.Status.TheVariants as status
-use Rattle.cosim_status.specs.declared.status.Object.TheVariants as object
-use Rattle.cosim_status.specs.Outcomes.{Outcome, Lacks, Refuses, Seen, Stand}
-use Rattle.cosim_status.specs.Steps.{IsStanding}
-use Rattle.cosim_status.proofs.After.{both, stand-after-of, stand-told-after-of, blamed-after}
-use Rattle.cosim_status.specs.Steps.{IsLacking}
+use Rattle.outcomes.specs.declared.failures.ReadFault.{ReadFault}
+use Rattle.outcomes.specs.declared.failures.ReadFault.TheVariants.{Refused, Failed, NoMemory}
+use Rattle.outcomes.specs.Seen.{Seen}
+use Rattle.outcomes.specs.Outcomes.{Outcome, Lacks, Refuses}
+use Rattle.outcomes.specs.Steps.{IsStanding}
+use Rattle.outcomes.proofs.After.{both, joined-told, stand-after-of, stands-after, blamed-after}
+use Rattle.cosim_inputs.specs.declared.refusals.InputsRefusal.{InputsRefusal}
 use Rattle.cos_parts.specs.declared.any_device.AnyDevice.{AnyDevice}
 use Rattle.cosim_inputs.specs.Fresh.{device_of, devices_of}
 use Rattle.cosim_inputs.specs.Limits.{IsPort, ArePorts}
@@ -22,11 +20,11 @@ use Rattle.cosim_inputs.specs.Reads.{AreRead, AreUnread, AreLacking}
 
 -- What stands against some files stands against more.
 
-refused-none : (r : Option InputFault) (u v : Option Outcome) → (u ≡ None → v ≡ v) → or_refused r u ≡ None → (r ≡ None) × (u ≡ None)
+refused-none : (r : Option InputsRefusal) (u v : Option (Outcome InputsRefusal)) → (u ≡ None → v ≡ v) → or_refused r u ≡ None → (r ≡ None) × (u ≡ None)
 refused-none None u v any none = (refl, none)
 refused-none (Some f) u v any none = absurd (cc)
 
-at-none : (a : Asked) (found : Option (List ℕ)) (u v : Option Outcome) → trouble_at a found u ≡ None → (trouble_at a found v ≡ v) × (u ≡ None)
+at-none : (a : Asked) (found : Option (List ℕ)) (u v : Option (Outcome InputsRefusal)) → trouble_at a found u ≡ None → (trouble_at a found v ≡ v) × (u ≡ None)
 at-none a None u v none = absurd (cc)
 at-none a (Some bytes) u v none =
     let r = refused-none (refusal a.role bytes) u u (λ e. refl) none in
@@ -38,20 +36,20 @@ trouble-behind m (a ∷ xs) ys none =
     let here = at-none a (m a.name) (trouble m xs) (trouble m (xs ++ ys)) none in
     here.0 ∙ trouble-behind m xs ys here.1
 
-at-some : (a : Asked) (found : Option (List ℕ)) (u v : Option Outcome) (p : Outcome) → (u ≡ Some p → v ≡ Some p) → trouble_at a found u ≡ Some p → trouble_at a found v ≡ Some p
+at-some : (a : Asked) (found : Option (List ℕ)) (u v : Option (Outcome InputsRefusal)) (p : Outcome InputsRefusal) → (u ≡ Some p → v ≡ Some p) → trouble_at a found u ≡ Some p → trouble_at a found v ≡ Some p
 at-some a None u v p on is = is
 at-some a (Some bytes) u v p on is = by (refusal a.role bytes) is
   where
-    by : (r : Option InputFault) → or_refused r u ≡ Some p → or_refused r v ≡ Some p
+    by : (r : Option InputsRefusal) → or_refused r u ≡ Some p → or_refused r v ≡ Some p
     by None e = on e
     by (Some f) e = e
 
-pub trouble-before : (m : Store) (xs ys : List Asked) (p : Outcome) → trouble m xs ≡ Some p → trouble m (xs ++ ys) ≡ Some p
+pub trouble-before : (m : Store) (xs ys : List Asked) (p : Outcome InputsRefusal) → trouble m xs ≡ Some p → trouble m (xs ++ ys) ≡ Some p
 trouble-before m [] ys p is = absurd (cc)
 trouble-before m (a ∷ xs) ys p is = at-some a (m a.name) (trouble m xs) (trouble m (xs ++ ys)) p (trouble-before m xs ys p) is
 
 -- behind files that were read, and before more
-pub trouble-within : (m : Store) (xs ys zs : List Asked) (p : Outcome) → trouble m xs ≡ None → trouble m ys ≡ Some p → trouble m (xs ++ (ys ++ zs)) ≡ Some p
+pub trouble-within : (m : Store) (xs ys zs : List Asked) (p : Outcome InputsRefusal) → trouble m xs ≡ None → trouble m ys ≡ Some p → trouble m (xs ++ (ys ++ zs)) ≡ Some p
 trouble-within m xs ys zs p none is = trouble-behind m xs (ys ++ zs) none ∙ trouble-before m ys zs p is
 
 -- The same of the files that are told.
@@ -60,7 +58,7 @@ fine-both : (old mid : Option Store) (xs ys : List Asked) → IfSome old (λ m. 
 fine-both None mid xs ys told first then = tt
 fine-both (Some m) mid xs ys told first then = trouble-behind m xs ys first ∙ subst (λ o. IfSome o (λ n. trouble n ys ≡ None)) told then
 
-refused-within : (old mid : Option Store) (xs ys zs : List Asked) (p : Outcome) → IfSome old (λ m. mid ≡ Some m) → IfSome old (λ m. trouble m xs ≡ None) → IfSome mid (λ m. trouble m ys ≡ Some p) → IfSome old (λ m. trouble m (xs ++ (ys ++ zs)) ≡ Some p)
+refused-within : (old mid : Option Store) (xs ys zs : List Asked) (p : Outcome InputsRefusal) → IfSome old (λ m. mid ≡ Some m) → IfSome old (λ m. trouble m xs ≡ None) → IfSome mid (λ m. trouble m ys ≡ Some p) → IfSome old (λ m. trouble m (xs ++ (ys ++ zs)) ≡ Some p)
 refused-within None mid xs ys zs p told first then = tt
 refused-within (Some m) mid xs ys zs p told first then = trouble-within m xs ys zs p first (subst (λ o. IfSome o (λ n. trouble n ys ≡ Some p)) told then)
 
@@ -71,46 +69,25 @@ lacking-within (Some m) mid xs ys zs some told first then =
     let there = subst (λ o. IsSomeAnd o (λ n. (name : List ℕ) × (trouble n ys ≡ Some (Lacks name)))) told then in
     (there.0, trouble-within m xs ys zs (Lacks there.0) first there.1)
 
-pub joined-told : (f g : Seen Store) → IsStanding f → g.old ≡ f.new → IfSome f.old (λ m. g.old ≡ Some m)
-joined-told f g stands same = subst (λ o. IfSome f.old (λ m. o ≡ Some m)) (sym same) stands.told
-
-pub stands-both : (f g : Seen Store) → IsStanding f → g.before ≡ f.now → g.old ≡ f.new → IsStanding g → IsStanding (both f g)
-stands-both f g stands joined same then =
-    record { count = then.count ∙ joined ∙ stands.count; told = stand-told-after-of f.old g.old g.new (joined-told f g stands same) then.told }
-
 pub read-both : (f g : Seen Store) (xs ys : List Asked) → AreRead f xs → g.before ≡ f.now → g.old ≡ f.new → AreRead g ys → AreRead (both f g) (xs ++ ys)
 read-both f g xs ys first joined same then =
-    record { stands = stands-both f g first.stands joined same then.stands; fine = fine-both f.old g.old xs ys (joined-told f g first.stands same) first.fine then.fine }
+    record { stands = stands-after f g first.stands joined same then.stands; fine = fine-both f.old g.old xs ys (joined-told f g first.stands same) first.fine then.fine }
 
 -- a file behind others isn't read
-pub unread-within : (f g : Seen Store) (xs ys zs : List Asked) (s : Status) → AreRead f xs → g.before ≡ f.now → g.old ≡ f.new → AreUnread g ys s → AreUnread (both f g) (xs ++ (ys ++ zs)) s
-unread-within f g xs ys zs (status.Input e) first joined same then =
-    (stands-both f g first.stands joined same then.0, refused-within f.old g.old xs ys zs (Refuses (status.Input e) []) (joined-told f g first.stands same) first.fine then.1)
-unread-within f g xs ys zs (status.Outside object.Files n) first joined same then = (
+pub unread-within : (f g : Seen Store) (xs ys zs : List Asked) (s : ReadFault InputsRefusal) → AreRead f xs → g.before ≡ f.now → g.old ≡ f.new → AreUnread g ys s → AreUnread (both f g) (xs ++ (ys ++ zs)) s
+unread-within f g xs ys zs (Refused e) first joined same then =
+    (stands-after f g first.stands joined same then.0, refused-within f.old g.old xs ys zs (Refuses e []) (joined-told f g first.stands same) first.fine then.1)
+unread-within f g xs ys zs (Failed n) first joined same then = (
   blamed-after f.before g.before g.now n (joined ∙ first.stands.count) then.0,
   stand-after-of f.old g.old g.new (joined-told f g first.stands same) then.1,
 )
-unread-within f g xs ys zs status.NoMemory first joined same then =
+unread-within f g xs ys zs NoMemory first joined same then =
     (then.0 ∙ joined ∙ first.stands.count, stand-after-of f.old g.old g.new (joined-told f g first.stands same) then.1)
-unread-within f g xs ys zs (status.Outside object.Out n) first joined same then = then
-unread-within f g xs ys zs (status.Outside object.Net n) first joined same then = then
-unread-within f g xs ys zs (status.Outside (object.Link port) n) first joined same then = then
-unread-within f g xs ys zs status.Done first joined same then = then
-unread-within f g xs ys zs (status.Usage index) first joined same then = then
-unread-within f g xs ys zs (status.Config e) first joined same then = then
-unread-within f g xs ys zs (status.Peer port e) first joined same then = then
 
-pub lacks-within : (f g : Seen Store) (xs ys zs : List Asked) (s : Status) → IsSome f.old → AreRead f xs → g.old ≡ f.new → AreLacking g.old ys s → AreLacking f.old (xs ++ (ys ++ zs)) s
-lacks-within f g xs ys zs (status.Outside object.Files n) some first same then = lacking-within f.old g.old xs ys zs some (joined-told f g first.stands same) first.fine then
-lacks-within f g xs ys zs (status.Outside object.Out n) some first same then = tt
-lacks-within f g xs ys zs (status.Outside object.Net n) some first same then = tt
-lacks-within f g xs ys zs (status.Outside (object.Link port) n) some first same then = tt
-lacks-within f g xs ys zs (status.Input e) some first same then = tt
-lacks-within f g xs ys zs status.NoMemory some first same then = tt
-lacks-within f g xs ys zs status.Done some first same then = tt
-lacks-within f g xs ys zs (status.Usage index) some first same then = tt
-lacks-within f g xs ys zs (status.Config e) some first same then = tt
-lacks-within f g xs ys zs (status.Peer port e) some first same then = tt
+pub lacks-within : (f g : Seen Store) (xs ys zs : List Asked) (s : ReadFault InputsRefusal) → IsSome f.old → AreRead f xs → g.old ≡ f.new → AreLacking g.old ys s → AreLacking f.old (xs ++ (ys ++ zs)) s
+lacks-within f g xs ys zs (Failed n) some first same then = lacking-within f.old g.old xs ys zs some (joined-told f g first.stands same) first.fine then
+lacks-within f g xs ys zs (Refused e) some first same then = tt
+lacks-within f g xs ys zs NoMemory some first same then = tt
 
 -- the files of ports, and of those behind them
 pub ports_files-append : (p : ℕ) (xs ys : List PortConfig) → ports_files p (xs ++ ys) ≡ ports_files p xs ++ ports_files (p + length xs) ys
@@ -134,21 +111,9 @@ ports_files-rest n xs x small is =
     ∙ append_assoc (ports_files 0 (take n xs)) (port_files n x) (ports_files (n + 1) (drop (n + 1) xs))
 
 -- one file alone
-lacks-one-of : (old : Option Store) (a : Asked) → IsSomeAnd old (λ m. m a.name ≡ None) → IsSomeAnd old (λ m. (name : List ℕ) × (trouble m (a ∷ []) ≡ Some (Lacks name)))
+pub lacks-one-of : (old : Option Store) (a : Asked) → IsSomeAnd old (λ m. m a.name ≡ None) → IsSomeAnd old (λ m. (name : List ℕ) × (trouble m (a ∷ []) ≡ Some (Lacks name)))
 lacks-one-of None a none = none
 lacks-one-of (Some m) a none = (a.name, ap (λ found. trouble_at a found None) none)
-
-pub lacks-one : (old : Option Store) (a : Asked) (s : Status) → IsLacking old a.name s → AreLacking old (a ∷ []) s
-lacks-one old a (status.Outside object.Files n) lacking = lacks-one-of old a lacking
-lacks-one old a (status.Outside object.Out n) lacking = tt
-lacks-one old a (status.Outside object.Net n) lacking = tt
-lacks-one old a (status.Outside (object.Link port) n) lacking = tt
-lacks-one old a (status.Input e) lacking = tt
-lacks-one old a status.NoMemory lacking = tt
-lacks-one old a status.Done lacking = tt
-lacks-one old a (status.Usage index) lacking = tt
-lacks-one old a (status.Config e) lacking = tt
-lacks-one old a (status.Peer port e) lacking = tt
 
 -- a port of some that are within limits
 port-at-of : (ps : List PortConfig) (n : ℕ) (d : PortConfig) → ArePorts ps → n < length ps → IsPort (get_or ps n d)
@@ -169,7 +134,7 @@ devices-next (Some m) n ps p ds es d small is more are mid told here =
     ∙ sym (ap (λ l. map (device_of m) l) (take_more ps n p small) ∙ map-append (device_of m) (take n ps) (get_or ps n p ∷ []))
 
 -- What stands against the first files stands against all.
-refused-front : (old : Option Store) (xs ys : List Asked) (p : Outcome) → IfSome old (λ m. trouble m xs ≡ Some p) → IfSome old (λ m. trouble m (xs ++ ys) ≡ Some p)
+refused-front : (old : Option Store) (xs ys : List Asked) (p : Outcome InputsRefusal) → IfSome old (λ m. trouble m xs ≡ Some p) → IfSome old (λ m. trouble m (xs ++ ys) ≡ Some p)
 refused-front None xs ys p is = tt
 refused-front (Some m) xs ys p is = trouble-before m xs ys p is
 
@@ -177,36 +142,22 @@ lacking-front : (old : Option Store) (xs ys : List Asked) → IsSomeAnd old (λ 
 lacking-front None xs ys is = is
 lacking-front (Some m) xs ys (name, is) = (name, trouble-before m xs ys (Lacks name) is)
 
-pub unread-front : (f : Seen Store) (xs ys : List Asked) (s : Status) → AreUnread f xs s → AreUnread f (xs ++ ys) s
-unread-front f xs ys (status.Input e) (stands, is) = (stands, refused-front f.old xs ys (Refuses (status.Input e) []) is)
-unread-front f xs ys (status.Outside object.Files n) unread = unread
-unread-front f xs ys status.NoMemory unread = unread
-unread-front f xs ys (status.Outside object.Out n) unread = unread
-unread-front f xs ys (status.Outside object.Net n) unread = unread
-unread-front f xs ys (status.Outside (object.Link port) n) unread = unread
-unread-front f xs ys status.Done unread = unread
-unread-front f xs ys (status.Usage index) unread = unread
-unread-front f xs ys (status.Config e) unread = unread
-unread-front f xs ys (status.Peer port e) unread = unread
+pub unread-front : (f : Seen Store) (xs ys : List Asked) (s : ReadFault InputsRefusal) → AreUnread f xs s → AreUnread f (xs ++ ys) s
+unread-front f xs ys (Refused e) (stands, is) = (stands, refused-front f.old xs ys (Refuses e []) is)
+unread-front f xs ys (Failed n) unread = unread
+unread-front f xs ys NoMemory unread = unread
 
-pub lacks-front : (old : Option Store) (xs ys : List Asked) (s : Status) → AreLacking old xs s → AreLacking old (xs ++ ys) s
-lacks-front old xs ys (status.Outside object.Files n) lacking = lacking-front old xs ys lacking
-lacks-front old xs ys (status.Outside object.Out n) lacking = tt
-lacks-front old xs ys (status.Outside object.Net n) lacking = tt
-lacks-front old xs ys (status.Outside (object.Link port) n) lacking = tt
-lacks-front old xs ys (status.Input e) lacking = tt
-lacks-front old xs ys status.NoMemory lacking = tt
-lacks-front old xs ys status.Done lacking = tt
-lacks-front old xs ys (status.Usage index) lacking = tt
-lacks-front old xs ys (status.Config e) lacking = tt
-lacks-front old xs ys (status.Peer port e) lacking = tt
+pub lacks-front : (old : Option Store) (xs ys : List Asked) (s : ReadFault InputsRefusal) → AreLacking old xs s → AreLacking old (xs ++ ys) s
+lacks-front old xs ys (Failed n) lacking = lacking-front old xs ys lacking
+lacks-front old xs ys (Refused e) lacking = tt
+lacks-front old xs ys NoMemory lacking = tt
 
 -- The last files aren't read.
-pub unread-last : (f g : Seen Store) (xs ys : List Asked) (s : Status) → AreRead f xs → g.before ≡ f.now → g.old ≡ f.new → AreUnread g ys s → AreUnread (both f g) (xs ++ ys) s
+pub unread-last : (f g : Seen Store) (xs ys : List Asked) (s : ReadFault InputsRefusal) → AreRead f xs → g.before ≡ f.now → g.old ≡ f.new → AreUnread g ys s → AreUnread (both f g) (xs ++ ys) s
 unread-last f g xs ys s first joined same then =
     subst (λ l. AreUnread (both f g) (xs ++ l) s) (append-nil ys) (unread-within f g xs ys [] s first joined same then)
 
-pub lacks-last : (f g : Seen Store) (xs ys : List Asked) (s : Status) → IsSome f.old → AreRead f xs → g.old ≡ f.new → AreLacking g.old ys s → AreLacking f.old (xs ++ ys) s
+pub lacks-last : (f g : Seen Store) (xs ys : List Asked) (s : ReadFault InputsRefusal) → IsSome f.old → AreRead f xs → g.old ≡ f.new → AreLacking g.old ys s → AreLacking f.old (xs ++ ys) s
 lacks-last f g xs ys s some first same then = subst (λ l. AreLacking f.old (xs ++ l) s) (append-nil ys) (lacks-within f g xs ys [] s some first same then)
 
 -- What was told of the files in between is told of them at first.

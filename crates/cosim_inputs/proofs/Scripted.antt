@@ -1,15 +1,15 @@
 -- What stands against the text of a script.
-use Rattle.std.specs.Prelude.{IfSome, ◌++◌}
-use Rattle.std.proofs.Common.{ℕ, ◌≡◌, Bool, true, false, List, [], ◌∷◌, Result, Ok, Err, refl, ap, sym, ◌∙◌, subst}
+use Rattle.std.specs.Prelude.{IfSome}
+use Rattle.std.proofs.Common.{ℕ, ◌≡◌, Bool, true, false, List, [], ◌∷◌, Result, refl, ap, ◌∙◌, subst}
 use Rattle.std.specs.declared.option.Option.{Option}
 use Rattle.std.specs.declared.option.Option.TheVariants.{Some, None}
 use Rattle.std.specs.Str.{is_utf8, IsUtf8}
-use Rattle.std.proofs.lemmas.Str.{IsUtf8-from_is_utf8, is_utf8-from_IsUtf8}
+use Rattle.std.proofs.lemmas.Str.{IsUtf8-from_is_utf8}
 use Rattle.cos_base.specs.Stores.{Store}
 use Rattle.cos_script.specs.declared.step.ScriptStep.{ScriptStep}
 use Rattle.cos_script.specs.Scripts.{script_of}
-use Rattle.cosim_status.specs.Outcomes.{Seen}
-use Rattle.cosim_status.specs.Steps.{IsRead}
+use Rattle.outcomes.specs.Seen.{Seen}
+use Rattle.outcomes.specs.Steps.{IsRead}
 use Rattle.cosim_inputs.specs.Inputs.{Asked, AsScript, script_refusal, or_refused, trouble_at, trouble}
 
 pub no-utf8 : (bytes : List ℕ) → (IsUtf8 bytes → ⊥) → is_utf8 bytes ≡ false

@@ -10,10 +10,9 @@ use Rattle.cos_script.specs.Scripts.{script_of}
 use Rattle.cos_config.specs.declared.config.PortKind.{PortKind}
 use Rattle.cos_config.specs.declared.config.PortKind.TheVariants.{Null, Timer, Uart, Dma, Disk}
 use Rattle.cos_config.specs.declared.config.PortConfig.{PortConfig}
-use Rattle.cosim_status.specs.declared.status.InputFault.{InputFault}
-use Rattle.cosim_status.specs.declared.status.InputFault.TheVariants.{ImageEmpty, ImageTooLarge, Line, UartInput, DiskImage}
-use Rattle.cosim_status.specs.declared.status.Status.TheVariants.{Input}
-use Rattle.cosim_status.specs.Outcomes.{Outcome, Lacks, Refuses}
+use Rattle.outcomes.specs.Outcomes.{Outcome, Lacks, Refuses}
+use Rattle.cosim_inputs.specs.declared.refusals.InputsRefusal.{InputsRefusal}
+use Rattle.cosim_inputs.specs.declared.refusals.InputsRefusal.TheVariants.{ImageEmpty, ImageTooLarge, Line, UartInput, DiskImage}
 
 -- What a file is read as: the bytes that RAM of a size begins with, the script of a machine with so many ports, or the input or the
 -- image of a port's device.
@@ -28,27 +27,27 @@ pub record Asked : Type 0 where
   pub role : Role
 
 -- RAM begins with at least one byte, and at most as many as it has.
-abbrev pub image_refusal : ℕ → ℕ → Option InputFault
+abbrev pub image_refusal : ℕ → ℕ → Option InputsRefusal
 image_refusal size len = if nat_eq len 0 then Some ImageEmpty else if nat_le len size then None else Some (ImageTooLarge size len)
 
-abbrev pub line_refusal : Result (List ScriptStep) ℕ → Option InputFault
+abbrev pub line_refusal : Result (List ScriptStep) ℕ → Option InputsRefusal
 line_refusal (Ok steps) = None
 line_refusal (Err line) = Some (Line line)
 
 -- A script is UTF-8, and each of its lines is one of a script's. Lines are counted from 1.
-abbrev pub script_refusal : Bool → Result (List ScriptStep) ℕ → Option InputFault
+abbrev pub script_refusal : Bool → Result (List ScriptStep) ℕ → Option InputsRefusal
 script_refusal true steps = line_refusal steps
 script_refusal false steps = Some (Line 1)
 
 -- A UART takes at most 65,536 bytes of input.
-abbrev pub input_refusal : ℕ → ℕ → Option InputFault
+abbrev pub input_refusal : ℕ → ℕ → Option InputsRefusal
 input_refusal port len = if nat_le len 65536 then None else Some (UartInput port len)
 
 -- A disk has 1 to 32,768 sectors of 512 bytes.
-abbrev pub disk_refusal : ℕ → ℕ → Option InputFault
+abbrev pub disk_refusal : ℕ → ℕ → Option InputsRefusal
 disk_refusal port len = if nat_eq (len % 512) 0 && nat_le 512 len && nat_le len 16777216 then None else Some (DiskImage port len)
 
-abbrev pub refusal : Role → List ℕ → Option InputFault
+abbrev pub refusal : Role → List ℕ → Option InputsRefusal
 refusal (AsImage size) bytes = image_refusal size (length bytes)
 refusal (AsScript ports) bytes = script_refusal (is_utf8 bytes) (script_of ports bytes)
 refusal (AsInput port) bytes = input_refusal port (length bytes)
@@ -87,14 +86,14 @@ machine_files c = master_files c ++ ports_files 0 c.ports
 
 -- What stands against reading some files, one by one: the first that isn't there, or that is refused.
 
-abbrev pub or_refused : Option InputFault → Option Outcome → Option Outcome
+abbrev pub or_refused : Option InputsRefusal → Option (Outcome InputsRefusal) → Option (Outcome InputsRefusal)
 or_refused None later = later
-or_refused (Some f) later = Some (Refuses (Input f) [])
+or_refused (Some f) later = Some (Refuses f [])
 
-abbrev pub trouble_at : Asked → Option (List ℕ) → Option Outcome → Option Outcome
+abbrev pub trouble_at : Asked → Option (List ℕ) → Option (Outcome InputsRefusal) → Option (Outcome InputsRefusal)
 trouble_at a None later = Some (Lacks a.name)
 trouble_at a (Some bytes) later = or_refused (refusal a.role bytes) later
 
-abbrev pub trouble : Store → List Asked → Option Outcome
+abbrev pub trouble : Store → List Asked → Option (Outcome InputsRefusal)
 trouble m [] = None
 trouble m (a ∷ later) = trouble_at a (m a.name) (trouble m later)

@@ -1,8 +1,6 @@
 -- What the settings of a configuration that breaks no rule keep.
-use Rattle.std.specs.Prelude.{◌≡◌, ℕ, ◌%◌, ◌<◌, ◌≤◌, List, [], ◌∷◌, length, None, IsSome}
-use Rattle.cos_config.specs.declared.config.MachineKind.{MachineKind}
+use Rattle.std.specs.Prelude.{◌≡◌, ◌%◌, ◌<◌, ◌≤◌, List, [], ◌∷◌, length, None, IsSome}
 use Rattle.cos_config.specs.declared.config.MachineKind.TheVariants.{Rv, Script}
-use Rattle.cos_config.specs.declared.config.PortKind.{PortKind}
 use Rattle.cos_config.specs.declared.config.PortKind.TheVariants.{Disk}
 use Rattle.cos_config.specs.declared.config.PortConfig.{PortConfig}
 use Rattle.cos_config.specs.declared.config.Config.{Config}

@@ -1,14 +1,14 @@
 // The configuration.
 ghost use Rattle.std.specs.Prelude.{◌≡◌, ◌⊎◌, Ok, Err, IfOk, IfErr};
-ghost use Rattle.cosim_status.specs.Outcomes.{seen};
-ghost use Rattle.cosim_status.specs.Steps.{IsLacking};
+ghost use Rattle.outcomes.specs.Seen.{seen};
 ghost use Rattle.cosim_inputs.specs.Limits.{IsWithinLimits};
 ghost use Rattle.cosim_inputs.specs.Judging.{judged};
-ghost use Rattle.cosim_inputs.specs.Configs.{IsConfigRead, IsConfigUnread};
+ghost use Rattle.cosim_inputs.specs.Configs.{IsConfigRead, IsConfigUnread, IsConfigLacking};
 
+use crate::refusals::InputsRefusal;
 use cos_base::Files;
 use cos_config::{Config, ConfigFault, Sockets, judge};
-use cosim_status::{Status, read_file};
+use outcomes::{FilesFailure, ReadFault, read_file};
 use std::alloc::Global;
 
 /// Judges a text, and how the command ends where it is refused.
@@ -26,7 +26,7 @@ pub fn read_config<F: Files>(
     files: &mut F,
     name: &str,
     sockets: Sockets,
-) -> Result<Config, Status>
+) -> Result<Config, ReadFault<InputsRefusal>>
     // It is what the file's bytes are judged as.
     ensures ok { IfOk result (IsConfigRead sockets (seen F.count F.told files.old files.new) name.now) }
     // Its settings are within the limits.
@@ -34,15 +34,16 @@ pub fn read_config<F: Files>(
     // The first rule that it breaks, the files blamed, or no memory.
     ensures err { IfErr result (IsConfigUnread sockets (seen F.count F.told files.old files.new) name.now) }
     // Sound files are blamed only where they lack the name.
-    ensures is_sound { F.sound files.old → F.sound files.new × IfErr result (IsLacking (F.told files.old) name.now) }
+    ensures is_sound { F.sound files.old → F.sound files.new × IfErr result (IsConfigLacking (F.told files.old) name.now) }
 {
     let bytes = match read_file(files, name) {
         Ok(bytes) => bytes,
-        Err(status) => return Err(status),
+        Err(FilesFailure::Failed { count }) => return Err(ReadFault::Failed { count }),
+        Err(FilesFailure::NoMemory) => return Err(ReadFault::NoMemory),
     };
     match judge_text(alloc, bytes.as_slice(), sockets) {
         Ok(config) => Ok(config),
-        Err(ConfigFault::NoMemory) => Err(Status::NoMemory),
-        Err(fault) => Err(Status::Config(fault)),
+        Err(ConfigFault::NoMemory) => Err(ReadFault::NoMemory),
+        Err(fault) => Err(ReadFault::Refused(InputsRefusal::Config(fault))),
     }
 }

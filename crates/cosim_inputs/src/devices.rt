@@ -1,20 +1,22 @@
 // The devices of a configuration.
 ghost use Rattle.std.specs.Prelude.{◌≡◌, ◌%◌, ◌≤◌, All, Some, IfOk, IfErr, IfSome, length, vec_len};
 ghost use Rattle.cos_parts.specs.AnyDevices.{any_seen};
-ghost use Rattle.cosim_status.specs.Outcomes.{seen};
+ghost use Rattle.outcomes.specs.Seen.{seen};
 ghost use Rattle.cosim_inputs.specs.Limits.{IsPort, ArePorts};
 ghost use Rattle.cosim_inputs.specs.Inputs.{asked_as, port_files, ports_files, AsInput, AsDisk};
 ghost use Rattle.cosim_inputs.specs.Fresh.{bytes_in, device_of, devices_of};
 ghost use Rattle.cosim_inputs.specs.Reads.{AreRead, AreUnread, AreLacking};
 
+use crate::named_file::read_named;
+use crate::refusals::InputsRefusal;
 use cos_base::{Files, NoMemory, Numbers, Octets};
 use cos_config::{Name, PortConfig, PortKind};
 use cos_parts::{AnyDevice, Null};
-use cosim_status::{InputFault, Status, read_file};
 use dev_disk::Disk;
 use dev_dma::Dma;
 use dev_timer::Timer;
 use dev_uart::Uart;
+use outcomes::ReadFault;
 use std::alloc::Global;
 
 /// The most bytes of a UART's input.
@@ -32,7 +34,7 @@ fn read_input<F: Files>(
     files: &mut F,
     port: u32,
     name: &Option<Name>,
-) -> Result<Octets, Status>
+) -> Result<Octets, ReadFault<InputsRefusal>>
     ensures ok { IfOk result (λ _. AreRead (seen F.count F.told files.old files.new) (asked_as (AsInput port) name.now)) }
     ensures bytes { IfOk result (λ o. IfSome (F.told files.old) (λ m. o.bytes ≡ bytes_in m name.now)) }
     ensures few { IfOk result (λ o. length o.bytes ≤ 65536) }
@@ -43,12 +45,12 @@ fn read_input<F: Files>(
         Some(name) => name,
         None => return Ok(Octets::make(alloc)),
     };
-    let bytes = match read_file(files, name.as_str()) {
+    let bytes = match read_named(files, name) {
         Ok(bytes) => bytes,
-        Err(status) => return Err(status),
+        Err(fault) => return Err(fault),
     };
     if bytes.len() > MOST_INPUT {
-        return Err(Status::Input(InputFault::UartInput {
+        return Err(ReadFault::Refused(InputsRefusal::UartInput {
             port,
             len: bytes.len() as u64,
         }));
@@ -57,7 +59,11 @@ fn read_input<F: Files>(
 }
 
 /// Reads the image of the disk at a port.
-fn read_image<F: Files>(files: &mut F, port: u32, name: &Name) -> Result<Octets, Status>
+fn read_image<F: Files>(
+    files: &mut F,
+    port: u32,
+    name: &Name,
+) -> Result<Octets, ReadFault<InputsRefusal>>
     ensures ok { IfOk result (λ _. AreRead (seen F.count F.told files.old files.new) (asked_as (AsDisk port) (Some name.now))) }
     ensures bytes { IfOk result (λ o. IfSome (F.told files.old) (λ m. o.bytes ≡ bytes_in m (Some name.now))) }
     ensures whole { IfOk result (λ o. length o.bytes % 512 ≡ 0) }
@@ -66,15 +72,15 @@ fn read_image<F: Files>(files: &mut F, port: u32, name: &Name) -> Result<Octets,
     ensures err { IfErr result (AreUnread (seen F.count F.told files.old files.new) (asked_as (AsDisk port) (Some name.now))) }
     ensures is_sound { F.sound files.old → F.sound files.new × IfErr result (AreLacking (F.told files.old) (asked_as (AsDisk port) (Some name.now))) }
 {
-    let bytes = match read_file(files, name.as_str()) {
+    let bytes = match read_named(files, name) {
         Ok(bytes) => bytes,
-        Err(status) => return Err(status),
+        Err(fault) => return Err(fault),
     };
     let len = bytes.len();
     if len % SECTOR == 0 && SECTOR <= len && len <= MOST_IMAGE {
         return Ok(bytes);
     }
-    Err(Status::Input(InputFault::DiskImage {
+    Err(ReadFault::Refused(InputsRefusal::DiskImage {
         port,
         len: len as u64,
     }))
@@ -97,7 +103,7 @@ fn read_uart<F: Files>(
     files: &mut F,
     port: u32,
     config: &PortConfig,
-) -> Result<AnyDevice, Status>
+) -> Result<AnyDevice, ReadFault<InputsRefusal>>
     requires port { IsPort config.now }
     requires kind { config.now.kind ≡ PortKind.Uart }
     ensures ok { IfOk result (λ _. AreRead (seen F.count F.told files.old files.new) (port_files port config.now)) }
@@ -108,7 +114,7 @@ fn read_uart<F: Files>(
 {
     match read_input(alloc, files, port, &config.input) {
         Ok(input) => Ok(AnyDevice::Uart(Uart::make(alloc, config.line, input, config.gap))),
-        Err(status) => Err(status),
+        Err(fault) => Err(fault),
     }
 }
 
@@ -118,7 +124,7 @@ fn read_disk<F: Files>(
     files: &mut F,
     port: u32,
     config: &PortConfig,
-) -> Result<AnyDevice, Status>
+) -> Result<AnyDevice, ReadFault<InputsRefusal>>
     requires port { IsPort config.now }
     requires kind { config.now.kind ≡ PortKind.Disk }
     ensures ok { IfOk result (λ _. AreRead (seen F.count F.told files.old files.new) (port_files port config.now)) }
@@ -129,7 +135,7 @@ fn read_disk<F: Files>(
 {
     let bad = match copy_of(alloc, &config.bad) {
         Ok(bad) => bad,
-        Err(NoMemory) => return Err(Status::NoMemory),
+        Err(NoMemory) => return Err(ReadFault::NoMemory),
     };
     let name = match &config.disk {
         Some(name) => name,
@@ -137,7 +143,7 @@ fn read_disk<F: Files>(
     };
     match read_image(files, port, name) {
         Ok(image) => Ok(AnyDevice::Disk(Disk::make(config.line, image, bad))),
-        Err(status) => Err(status),
+        Err(fault) => Err(fault),
     }
 }
 
@@ -147,7 +153,7 @@ fn read_device<F: Files>(
     files: &mut F,
     port: u32,
     config: &PortConfig,
-) -> Result<AnyDevice, Status>
+) -> Result<AnyDevice, ReadFault<InputsRefusal>>
     requires { IsPort config.now }
     ensures ok { IfOk result (λ _. AreRead (seen F.count F.told files.old files.new) (port_files port config.now)) }
     ensures device { IfOk result (λ d. IfSome (F.told files.old) (λ m. d ≡ device_of m config.now)) }
@@ -170,7 +176,7 @@ pub fn read_devices<F: Files>(
     alloc: Global,
     files: &mut F,
     ports: &[PortConfig],
-) -> Result<Vec<AnyDevice>, Status>
+) -> Result<Vec<AnyDevice>, ReadFault<InputsRefusal>>
     requires few { length ports.now ≤ 16 }
     requires ports { ArePorts ports.now }
     // Nothing stands against reading any of the files.
@@ -189,11 +195,11 @@ pub fn read_devices<F: Files>(
         let port = devices.len() as u32;
         let device = match read_device(alloc, files, port, config) {
             Ok(device) => device,
-            Err(status) => return Err(status),
+            Err(fault) => return Err(fault),
         };
         match devices.push(device) {
             Ok(()) => {}
-            Err(_) => return Err(Status::NoMemory),
+            Err(_) => return Err(ReadFault::NoMemory),
         }
     }
     Ok(devices)

@@ -8,6 +8,9 @@ mod config;
 mod devices;
 mod machine;
 mod master;
+mod named_file;
+mod refusals;
 
 pub use config::read_config;
 pub use machine::{Machine, read_machine};
+pub use refusals::InputsRefusal;

@@ -2,7 +2,7 @@
 ghost use Rattle.std.specs.Prelude.{◌≡◌, ◌≤◌, length, All, None, IfOk, IfErr, IfSome};
 ghost use Rattle.cos_parts.specs.AnyMasters.{any_reach, any_issued};
 ghost use Rattle.cos_parts.specs.AnyDevices.{any_seen};
-ghost use Rattle.cosim_status.specs.Outcomes.{seen};
+ghost use Rattle.outcomes.specs.Seen.{seen};
 ghost use Rattle.cosim_inputs.specs.Limits.{IsWithinLimits};
 ghost use Rattle.cosim_inputs.specs.Inputs.{machine_files};
 ghost use Rattle.cosim_inputs.specs.Fresh.{master_of, devices_of};
@@ -10,10 +10,11 @@ ghost use Rattle.cosim_inputs.specs.Reads.{AreRead, AreUnread, AreLacking};
 
 use crate::devices::read_devices;
 use crate::master::read_master;
+use crate::refusals::InputsRefusal;
 use cos_base::Files;
 use cos_config::Config;
 use cos_parts::{AnyDevice, AnyMaster};
-use cosim_status::Status;
+use outcomes::ReadFault;
 use std::alloc::Global;
 
 /// What a machine is put together from: its master and its devices by port, at reset.
@@ -31,7 +32,7 @@ pub fn read_machine<F: Files>(
     alloc: Global,
     files: &mut F,
     config: &Config,
-) -> Result<Machine, Status>
+) -> Result<Machine, ReadFault<InputsRefusal>>
     requires { IsWithinLimits config.now }
     // Nothing stands against reading any of the files.
     ensures ok { IfOk result (λ _. AreRead (seen F.count F.told files.old files.new) (machine_files config.now)) }
@@ -50,10 +51,10 @@ pub fn read_machine<F: Files>(
 {
     let master = match read_master(alloc, files, config) {
         Ok(master) => master,
-        Err(status) => return Err(status),
+        Err(fault) => return Err(fault),
     };
     match read_devices(alloc, files, config.ports.as_slice()) {
         Ok(devices) => Ok(Machine { master, devices }),
-        Err(status) => Err(status),
+        Err(fault) => Err(fault),
     }
 }

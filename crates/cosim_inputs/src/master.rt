@@ -1,7 +1,7 @@
 // The master of a configuration.
 ghost use Rattle.std.specs.Prelude.{◌≡◌, ◌≤◌, ◌++◌, length, map, Some, None, IfOk, IfErr, IfSome};
 ghost use Rattle.cos_parts.specs.AnyMasters.{any_reach, any_issued};
-ghost use Rattle.cosim_status.specs.Outcomes.{seen};
+ghost use Rattle.outcomes.specs.Seen.{seen};
 ghost use Rattle.cosim_inputs.specs.Limits.{ArePorts, IsMachine, IsWithinLimits};
 ghost use Rattle.cosim_inputs.specs.Inputs.{asked_as, master_files, AsImage, AsScript};
 ghost use Rattle.cosim_inputs.specs.Fresh.{ram_of, bytes_in, window_of, windows_of, master_of};
@@ -10,18 +10,24 @@ ghost use Rattle.cosim_inputs.specs.Masters.{IsScriptOf};
 ghost use Rattle.sys_bus.specs.Maps.{fault_found};
 ghost use Rattle.sys_bus.specs.Units.{fresh_master};
 
+use crate::named_file::read_named;
+use crate::refusals::InputsRefusal;
 use cos_base::{Files, NoMemory};
 use cos_config::{Config, MachineKind, Name, PortConfig};
 use cos_parts::AnyMaster;
 use cos_script::{ScriptFault, ScriptMaster};
-use cosim_status::{InputFault, Status, read_file};
+use outcomes::ReadFault;
 use std::alloc::Global;
 use std::str;
 use sys_bus::{Map, MapFault, RvMaster, Window};
 use sys_ram::{ImageFault, Ram};
 
 /// RAM of a configuration's size, with its image at the front where one is named.
-fn read_ram<F: Files>(alloc: Global, files: &mut F, config: &Config) -> Result<Ram, Status>
+fn read_ram<F: Files>(
+    alloc: Global,
+    files: &mut F,
+    config: &Config,
+) -> Result<Ram, ReadFault<InputsRefusal>>
     requires { IsMachine config.now }
     ensures ok { IfOk result (λ _. AreRead (seen F.count F.told files.old files.new) (asked_as (AsImage config.now.ram) config.now.image)) }
     ensures ram { IfOk result (λ r. IfSome (F.told files.old) (λ m. r ≡ ram_of m config.now)) }
@@ -31,23 +37,23 @@ fn read_ram<F: Files>(alloc: Global, files: &mut F, config: &Config) -> Result<R
 {
     let mut ram = match Ram::make(alloc, config.ram) {
         Ok(ram) => ram,
-        Err(NoMemory) => return Err(Status::NoMemory),
+        Err(NoMemory) => return Err(ReadFault::NoMemory),
     };
     let name = match &config.image {
         Some(name) => name,
         None => return Ok(ram),
     };
-    let bytes = match read_file(files, name.as_str()) {
+    let bytes = match read_named(files, name) {
         Ok(bytes) => bytes,
-        Err(status) => return Err(status),
+        Err(fault) => return Err(fault),
     };
     match ram.load(bytes.as_slice()) {
         Ok(()) => Ok(ram),
-        Err(ImageFault::Empty) => Err(Status::Input(InputFault::ImageEmpty)),
+        Err(ImageFault::Empty) => Err(ReadFault::Refused(InputsRefusal::ImageEmpty)),
         Err(ImageFault::TooLarge { size, got }) => {
-            Err(Status::Input(InputFault::ImageTooLarge { size, got }))
+            Err(ReadFault::Refused(InputsRefusal::ImageTooLarge { size, got }))
         }
-        Err(ImageFault::NoMemory) => Err(Status::NoMemory),
+        Err(ImageFault::NoMemory) => Err(ReadFault::NoMemory),
     }
 }
 
@@ -90,7 +96,7 @@ fn read_script<F: Files>(
     name: &Name,
     ports: u32,
     ram: Ram,
-) -> Result<AnyMaster, Status>
+) -> Result<AnyMaster, ReadFault<InputsRefusal>>
     ensures ok { IfOk result (λ _. AreRead (seen F.count F.told files.old files.new) (asked_as (AsScript ports) (Some name.now))) }
     ensures master { IfOk result (λ a. IfSome (F.told files.old) (λ m. IsScriptOf ports (bytes_in m (Some name.now)) ram a)) }
     ensures reach { IfOk result (λ a. any_reach a ≡ ports) }
@@ -98,18 +104,18 @@ fn read_script<F: Files>(
     ensures err { IfErr result (AreUnread (seen F.count F.told files.old files.new) (asked_as (AsScript ports) (Some name.now))) }
     ensures is_sound { F.sound files.old → F.sound files.new × IfErr result (AreLacking (F.told files.old) (asked_as (AsScript ports) (Some name.now))) }
 {
-    let bytes = match read_file(files, name.as_str()) {
+    let bytes = match read_named(files, name) {
         Ok(bytes) => bytes,
-        Err(status) => return Err(status),
+        Err(fault) => return Err(fault),
     };
     let text = match str::from_utf8(bytes.as_slice()) {
         Ok(text) => text,
-        Err(_) => return Err(Status::Input(InputFault::Line { line: 1 })),
+        Err(_) => return Err(ReadFault::Refused(InputsRefusal::Line { line: 1 })),
     };
     match ScriptMaster::make(alloc, text, ports, ram) {
         Ok(master) => Ok(AnyMaster::Script(master)),
-        Err(ScriptFault::Line { line }) => Err(Status::Input(InputFault::Line { line })),
-        Err(ScriptFault::NoMemory) => Err(Status::NoMemory),
+        Err(ScriptFault::Line { line }) => Err(ReadFault::Refused(InputsRefusal::Line { line })),
+        Err(ScriptFault::NoMemory) => Err(ReadFault::NoMemory),
     }
 }
 
@@ -119,7 +125,7 @@ pub fn read_master<F: Files>(
     alloc: Global,
     files: &mut F,
     config: &Config,
-) -> Result<AnyMaster, Status>
+) -> Result<AnyMaster, ReadFault<InputsRefusal>>
     requires { IsWithinLimits config.now }
     // Nothing stands against reading any of the files.
     ensures ok { IfOk result (λ _. AreRead (seen F.count F.told files.old files.new) (master_files config.now)) }
@@ -134,13 +140,13 @@ pub fn read_master<F: Files>(
 {
     let ram = match read_ram(alloc, files, config) {
         Ok(ram) => ram,
-        Err(status) => return Err(status),
+        Err(fault) => return Err(fault),
     };
     let ports = config.ports.as_slice();
     match config.kind {
         MachineKind::Rv => match make_hart(alloc, ports, ram) {
             Ok(master) => Ok(master),
-            Err(NoMemory) => Err(Status::NoMemory),
+            Err(NoMemory) => Err(ReadFault::NoMemory),
         },
         MachineKind::Script => match &config.script {
             Some(name) => read_script(alloc, files, name, ports.len() as u32, ram),

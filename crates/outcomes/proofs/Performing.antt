@@ -8,12 +8,14 @@ use Rattle.outcomes.specs.declared.failures.FilesFailure.TheVariants as files
 use Rattle.outcomes.specs.declared.failures.JudgeFault.{JudgeFault}
 use Rattle.outcomes.specs.declared.failures.JudgeFault.TheVariants as judge
 use Rattle.outcomes.specs.declared.failures.OutFailure.{OutFailure}
+use Rattle.outcomes.specs.declared.failures.ReadFault.{ReadFault}
+use Rattle.outcomes.specs.declared.failures.ReadFault.TheVariants as read
 use Rattle.outcomes.specs.declared.stop.Stop.{Stop}
 use Rattle.outcomes.specs.declared.stop.Stop.TheVariants.{Refused, NoMemory}
-use Rattle.outcomes.specs.Failures.{stop_of_files, stop_of_out, stop_of_judge}
+use Rattle.outcomes.specs.Failures.{stop_of_files, stop_of_out, stop_of_judge, stop_of_read}
 use Rattle.outcomes.specs.Seen.{Seen, IsUntouched}
 use Rattle.outcomes.specs.Outcomes.{Written, Outcome, Lacks, Refuses, Works, OfFile, PrintsAll, PrintsBefore, Performs}
-use Rattle.outcomes.specs.Steps.{IsStanding, IsRead, IsUnread, IsLacking, ComesRefused, IsPrinted, IsRoomFor, IsWritten, BlamesNone}
+use Rattle.outcomes.specs.Steps.{IsStanding, IsRead, IsUnread, IsLacking, ComesRefused, ComesUnread, ComesLacking, IsPrinted, IsRoomFor, IsWritten, BlamesNone}
 use Rattle.outcomes.proofs.After.{both, blamed-after}
 use Rattle.outcomes.proofs.Commands.{comes-read, IsOne, LacksSome, lacks-file, one-of-file, meets-each, told-stand, prints-nothing, before-rises}
 use Rattle.outcomes.proofs.Writing.{AreWritten, nothing-written, hold-failed, hold-unwritten}
@@ -136,3 +138,9 @@ pub file-printed : {R : Type 0} (name : List ℕ) (judge_by : List ℕ → Outco
     → IsPrinted k text r → (S → IsRoomFor room text r) → (S → IsSome f.old) → Performs (OfFile name judge_by f.old) f k S room (put_result r)
 file-printed name judge_by f k S room bytes text r one read comes printed fits told =
     text-performs (OfFile name judge_by f.old) f k S room text r (comes-read name judge_by f bytes (Works [] text) read comes) read.stands printed fits (λ s. one-of-file name judge_by f.old (told s) one)
+
+-- What several files hold wasn't had.
+pub inputs-perform : {R : Type 0} (Comes : Outcome R → Type 0) (f : Seen Store) (k : Seen (List ℕ)) (S : Type 0) (room : ℕ) (fault : ReadFault R) → ComesUnread Comes f fault → IsUntouched k → (S → ComesLacking Comes fault) → (S → IsOne Comes) → Performs Comes f k S room (Err (stop_of_read fault))
+inputs-perform Comes f k S room (read.Refused r) unread same lacks one = silently-refused Comes f k S room r unread.1 unread.0 same one
+inputs-perform Comes f k S room (read.Failed n) unread same lacks one = unread-performs Comes f k S room (files.Failed n) unread same lacks one
+inputs-perform Comes f k S room read.NoMemory unread same lacks one = unread-performs Comes f k S room files.NoMemory unread same lacks one

@@ -10,8 +10,10 @@ use Rattle.outcomes.specs.declared.failures.FilesFailure.TheVariants.{Failed, No
 use Rattle.outcomes.specs.declared.failures.JudgeFault.{JudgeFault}
 use Rattle.outcomes.specs.declared.failures.JudgeFault.TheVariants as judge
 use Rattle.outcomes.specs.declared.failures.OutFailure.{OutFailure}
+use Rattle.outcomes.specs.declared.failures.ReadFault.{ReadFault}
+use Rattle.outcomes.specs.declared.failures.ReadFault.TheVariants as read
 use Rattle.outcomes.specs.Seen.{Seen, CountStands, IsBlamed}
-use Rattle.outcomes.specs.Outcomes.{Outcome, Refuses, Stand, StandTold, PrintsAll, PrintsPart}
+use Rattle.outcomes.specs.Outcomes.{Outcome, Lacks, Refuses, Stand, StandTold, PrintsAll, PrintsPart}
 
 -- The files are as they were, and no call of theirs failed.
 pub record IsStanding (f : Seen Store) : Type 0 where
@@ -37,6 +39,18 @@ IsLacking old name NoMemory = Unit {0}
 abbrev pub ComesRefused : {R : Type 0} → (Outcome R → Type 0) → JudgeFault R → Type 0
 ComesRefused Comes (judge.Refused r) = Comes (Refuses r [])
 ComesRefused Comes judge.NoMemory = Unit {0}
+
+-- What files hold wasn't had: the command comes to a refusal, or the files are blamed, or there was no memory.
+abbrev pub ComesUnread : {R : Type 0} → (Outcome R → Type 0) → Seen Store → ReadFault R → Type 0
+ComesUnread Comes f (read.Refused r) = IsStanding f × Comes (Refuses r [])
+ComesUnread Comes f (read.Failed n) = IsBlamed f n × Stand f
+ComesUnread Comes f read.NoMemory = CountStands f × Stand f
+
+-- Sound files are blamed only where the command comes to a file that is lacking.
+abbrev pub ComesLacking : {R : Type 0} → (Outcome R → Type 0) → ReadFault R → Type 0
+ComesLacking Comes (read.Refused r) = Unit {0}
+ComesLacking Comes (read.Failed n) = (name : List ℕ) × Comes (Lacks name)
+ComesLacking Comes read.NoMemory = Unit {0}
 
 -- The text was printed, or `out` is blamed and a beginning of it was.
 abbrev pub IsPrinted : Seen (List ℕ) → List ℕ → Result Unit OutFailure → Type 0

@@ -7,7 +7,7 @@ mod object;
 mod steps;
 mod stop;
 
-pub use failures::{FilesFailure, JudgeFault, OutFailure};
+pub use failures::{FilesFailure, JudgeFault, OutFailure, ReadFault};
 pub use object::Object;
 pub use steps::{put_before, put_text, read_file, write_file};
 pub use stop::Stop;

@@ -1,10 +1,8 @@
 use Rattle.std.proofs.Common.{◌≡◌, None, Some, refl, arith}
-use Rattle.cosim_status.specs.Outcomes.{seen}
-use Rattle.cosim_status.proofs.Commands.{told-stand}
+use Rattle.outcomes.specs.Seen.{seen}
 use Rattle.cos_config.specs.declared.config.Config.{Config as Settings}
 use Rattle.cosim_inputs.specs.Fresh.{master_of, devices_of}
 use Rattle.cosim_inputs.specs.Inputs.{trouble, machine_files}
-use Rattle.cosim_inputs.proofs.Reading.{stands-both, told-first}
 use Rattle.cosim_direct.proofs.Coming.{comes-printed, config-not-run, config-lacks, machine-not-run, machine-lacks}
 use Rattle.cosim_direct.proofs.command.finish.Goals as goal
 

@@ -1,7 +1,3 @@
-use Rattle.std.specs.Prelude.{IfOk, IfErr}
-use Rattle.std.proofs.Common.{◌≡◌, ◌⊎◌, Result, Ok, Err}
-use Rattle.cos_config.specs.declared.config.Config.{Config}
-use Rattle.cos_config.specs.declared.fault.ConfigFault.{ConfigFault}
 use Rattle.cosim_inputs.proofs.Judged.{judges, judged-within, gives-ok, gives-err}
 use Rattle.cosim_inputs.proofs.config.judge_text.Goals as goal
 

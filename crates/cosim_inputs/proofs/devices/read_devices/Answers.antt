@@ -1,9 +1,10 @@
-use Rattle.std.proofs.Common.{◌≡◌, ◌+◌, ◌++◌, drop, take, refl, sym, ap, ◌∙◌, subst, arith, IfSome}
+use Rattle.std.proofs.Common.{◌≡◌, ◌+◌, drop, take, refl, sym, ◌∙◌, subst, arith}
 use Rattle.std.proofs.lemmas.Grind.{common_steps}
-use Rattle.cosim_status.specs.Outcomes.{seen}
+use Rattle.outcomes.specs.Seen.{seen}
 use Rattle.cosim_inputs.specs.Inputs.{port_files, ports_files}
 use Rattle.cosim_inputs.specs.Reads.{AreRead, AreUnread, AreLacking}
-use Rattle.cosim_inputs.proofs.Reading.{port-at, read-both, unread-within, lacks-within, ports_files-next, ports_files-rest, devices-next, joined-told}
+use Rattle.outcomes.proofs.After.{joined-told}
+use Rattle.cosim_inputs.proofs.Reading.{port-at, read-both, unread-within, lacks-within, ports_files-next, ports_files-rest, devices-next}
 use Rattle.cosim_inputs.proofs.devices.read_devices.Goals as goal
 
 pub read_device-requires : goal.read_device-requires
@@ -16,10 +17,10 @@ returns-in-Err-clause-err g c =
     let port : c.len-port.result ≡ i = c.len-port.ensures ∙ c.ports.invariant.count in
     let f = seen g.F.Files.count g.F.Files.told c.args.files.now c.ports.files in
     let h = seen g.F.Files.count g.F.Files.told c.ports.files c.read_device.new.files in
-    let here : AreUnread h (port_files i x) c.in-Err.status = subst (λ p. AreUnread h (port_files p x) c.in-Err.status) port c.in-Err.ensures.err in
-    subst (λ l. AreUnread (seen g.F.Files.count g.F.Files.told c.args.files.now c.read_device.new.files) l c.in-Err.status)
+    let here : AreUnread h (port_files i x) c.in-Err.fault = subst (λ p. AreUnread h (port_files p x) c.in-Err.fault) port c.in-Err.ensures.err in
+    subst (λ l. AreUnread (seen g.F.Files.count g.F.Files.told c.args.files.now c.read_device.new.files) l c.in-Err.fault)
     (sym (ports_files-rest i c.args.ports.now x c.ports-test.true c.config-item.is))
-    (unread-within f h (ports_files 0 (take i c.args.ports.now)) (port_files i x) (ports_files (i + 1) (drop (i + 1) c.args.ports.now)) c.in-Err.status c.ports.invariant.read refl refl here)
+    (unread-within f h (ports_files 0 (take i c.args.ports.now)) (port_files i x) (ports_files (i + 1) (drop (i + 1) c.args.ports.now)) c.in-Err.fault c.ports.invariant.read refl refl here)
 
 pub returns-in-Err-clause-is_sound : goal.returns-in-Err-clause-is_sound
 returns-in-Err-clause-is_sound g c = λ is.
@@ -29,11 +30,11 @@ returns-in-Err-clause-is_sound g c = λ is.
     let f = seen g.F.Files.count g.F.Files.told c.args.files.now c.ports.files in
     let h = seen g.F.Files.count g.F.Files.told c.ports.files c.read_device.new.files in
     let sound = c.in-Err.ensures.is_sound (c.ports.invariant.sound is) in
-    let here : AreLacking (g.F.Files.told c.ports.files) (port_files i x) c.in-Err.status = subst (λ p. AreLacking (g.F.Files.told c.ports.files) (port_files p x) c.in-Err.status) port sound.1 in (
+    let here : AreLacking (g.F.Files.told c.ports.files) (port_files i x) c.in-Err.fault = subst (λ p. AreLacking (g.F.Files.told c.ports.files) (port_files p x) c.in-Err.fault) port sound.1 in (
       sound.0,
-      subst (λ l. AreLacking (g.F.Files.told c.args.files.now) l c.in-Err.status)
+      subst (λ l. AreLacking (g.F.Files.told c.args.files.now) l c.in-Err.fault)
           (sym (ports_files-rest i c.args.ports.now x c.ports-test.true c.config-item.is))
-          (lacks-within f h (ports_files 0 (take i c.args.ports.now)) (port_files i x) (ports_files (i + 1) (drop (i + 1) c.args.ports.now)) c.in-Err.status (g.met.F.Files.sound_tells c.args.files.now is) c.ports.invariant.read refl here),
+          (lacks-within f h (ports_files 0 (take i c.args.ports.now)) (port_files i x) (ports_files (i + 1) (drop (i + 1) c.args.ports.now)) c.in-Err.fault (g.met.F.Files.sound_tells c.args.files.now is) c.ports.invariant.read refl here),
     )
 
 pub ports-preserved : goal.ports-preserved

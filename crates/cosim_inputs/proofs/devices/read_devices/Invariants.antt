@@ -1,10 +1,9 @@
 use Rattle.std.proofs.Common.{◌≡◌, All, IfSome, vec_len, take}
 use Rattle.cos_parts.specs.AnyDevices.{any_seen}
-use Rattle.cosim_status.specs.Outcomes.{seen}
+use Rattle.outcomes.specs.Seen.{seen}
 use Rattle.cosim_inputs.specs.Fresh.{devices_of}
 use Rattle.cosim_inputs.specs.Inputs.{ports_files}
 use Rattle.cosim_inputs.specs.Reads.{AreRead}
-use Rattle.cosim_inputs.specs.Limits.{ArePorts}
 use Rattle.cosim_inputs.proofs.devices.read_devices.Given as goal
 
 abbrev pub invariant-ports : goal.invariant-ports
