@@ -15,7 +15,8 @@ pub record Wire : Type 0 where
   pub received : List ℕ
   pub said : List ℕ → List ℕ
 
--- What always holds of a wire: nothing is received that isn't said for the bytes sent, and what is said grows with them.
+-- What always holds of a wire: nothing is received that isn't said for the bytes sent, and what is said grows with
+-- them.
 pub record IsWire (w : Wire) : Type 0 where
   pub within : IsPrefix w.received (w.said w.sent)
   pub grows : Grows w.said

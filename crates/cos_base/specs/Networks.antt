@@ -18,7 +18,8 @@ abbrev pub NetCounts : {T : Type 0} → ℕ → ℕ → Result T NetFault → Ty
 NetCounts before now result =
     MatchResult result (λ _. now ≡ before) (λ e. elim e [ net.Failed ↦ Rises before now | net.NoMemory ↦ now ≡ before ])
 
--- What a call that hands out a link did to what is told: the link is the first of those to come. `names` is what the call adds to the names, after a failure too.
+-- What a call that hands out a link did to what is told: the link is the first of those to come. `names` is what the
+-- call adds to the names, after a failure too.
 abbrev pub Hands : {L : Type 0} → Option (Coming L) → Option (Coming L) → List (List ℕ) → Result L NetFault → Type 0
 Hands None new names result = Unit {0}
 Hands (Some t) new names result =

@@ -27,6 +27,7 @@ told_while false s = None
 abbrev pub always : List ℕ → List ℕ → List ℕ
 always bytes heard = bytes
 
-pub always_grows : (b : Bool) (heard bytes : List ℕ) → IfSome (told_while b (record { heard = heard; says = always bytes })) (λ s. Grows s.says)
+pub always_grows : (b : Bool) (heard bytes : List ℕ)
+    → IfSome (told_while b (record { heard = heard; says = always bytes })) (λ s. Grows s.says)
 always_grows true heard bytes = λ x y. IsPrefix-same bytes
 always_grows false heard bytes = tt

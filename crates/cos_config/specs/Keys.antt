@@ -7,8 +7,8 @@ use Rattle.cos_config.specs.declared.fault.TableName.{TableName}
 use Rattle.cos_config.specs.declared.fault.ConfigFault.TheVariants.{Unknown, Missing, Kind, Word, Range}
 use Rattle.cos_config.specs.First.{Found, or_else}
 
--- A value is a text of which a test says that it is one of the key's words; a whole number from `low` to `high` that is a multiple
--- of `step`; any text; or a list of whole numbers from `low` to `high`, each above the one before it.
+-- A value is a text of which a test says that it is one of the key's words; a whole number from `low` to `high` that is
+-- a multiple of `step`; any text; or a list of whole numbers from `low` to `high`, each above the one before it.
 pub data Shape : Type 0 where
   A_word : (is_word : List ℕ → Bool) → Shape
   A_number : (low high step : ℕ) → Shape
@@ -34,7 +34,8 @@ number_found name key low high step _ = Some (Kind name key)
 -- the first entry that is no whole number, or is outside the limits, of which the lower one is above the entry before
 abbrev pub entries_found : TableName → List ℕ → ℕ → ℕ → Items → Found
 entries_found name key low high no_items = None
-entries_found name key low high (item entry later) = or_else (number_found name key low high 1 entry) (entries_found name key (number_in 0 (Some entry) + 1) high later)
+entries_found name key low high (item entry later) =
+    or_else (number_found name key low high 1 entry) (entries_found name key (number_in 0 (Some entry) + 1) high later)
 
 abbrev pub value_found : TableName → List ℕ → Shape → Data → Found
 value_found name key (A_word is_word) (string s) = if is_word s then None else Some (Word name key)
@@ -65,7 +66,8 @@ is_among name names = list_any (λ known. bytes_eq known name) names
 -- the first member whose key isn't among the names; members stand in the order of their keys' bytes
 abbrev pub unknown_found : TableName → List (List ℕ) → Members → Found
 unknown_found name names no_members = None
-unknown_found name names (member key value later) = if is_among key names then unknown_found name names later else Some (Unknown name key)
+unknown_found name names (member key value later) = if is_among key names then unknown_found name names later
+    else Some (Unknown name key)
 
 abbrev pub keys_found : TableName → Members → List Key → Found
 keys_found name held [] = None

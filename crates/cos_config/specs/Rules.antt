@@ -35,7 +35,9 @@ ports_found (Some (array entries)) = if are_tables entries then None else Some (
 ports_found (Some _) = Some (Kind Top (codes "port"))
 
 abbrev pub top_found : Members → Found
-top_found m = first_of (unknown_found Top top_names m ∷ machine_found (get_member (codes "machine") m) ∷ ports_found (get_member (codes "port") m) ∷ [])
+top_found m =
+    first_of (unknown_found Top top_names m ∷ machine_found (get_member (codes "machine") m)
+    ∷ ports_found (get_member (codes "port") m) ∷ [])
 
 -- The tables.
 
@@ -90,7 +92,8 @@ line_found a line b (p ∷ ps) = if has_line p line then Some (LineTwice a b) el
 
 abbrev pub lines_found : ℕ → List PortConfig → Found
 lines_found a [] = None
-lines_found a (p ∷ ps) = or_else (if has_line p p.line then line_found a p.line (a + 1) ps else None) (lines_found (a + 1) ps)
+lines_found a (p ∷ ps) =
+    or_else (if has_line p p.line then line_found a p.line (a + 1) ps else None) (lines_found (a + 1) ps)
 
 -- Capabilities: a DMA needs 1 and 2.
 
@@ -109,7 +112,9 @@ served_found (Port p) count = if nat_lt p count then None else Some (Missing (Po
 served_found _ count = None
 
 abbrev pub parts_found : Sockets → Config → Found
-parts_found sockets c = first_of (option_map overlap_fault (overlap_found 0 (parts c)) ∷ lines_found 0 c.ports ∷ needs_found 0 c.ports ∷ served_found sockets (length c.ports) ∷ [])
+parts_found sockets c =
+    first_of (option_map overlap_fault (overlap_found 0 (parts c)) ∷ lines_found 0 c.ports ∷ needs_found 0 c.ports
+    ∷ served_found sockets (length c.ports) ∷ [])
 
 -- The first rule that a table of the top level breaks.
 abbrev pub config_found : Sockets → Members → Found

@@ -19,14 +19,19 @@ text_at key members = as_text (get_member key members)
 -- The words.
 
 abbrev pub machine_kind_of : List ℕ → Option MachineKind
-machine_kind_of s = if bytes_eq s (codes "rv32i") then Some Rv else (if bytes_eq s (codes "script") then Some Script else None)
+machine_kind_of s = if bytes_eq s (codes "rv32i") then Some Rv
+    else (if bytes_eq s (codes "script") then Some Script else None)
 
 abbrev pub port_kind_of : List ℕ → Option PortKind
-port_kind_of s = if bytes_eq s (codes "null") then Some Null else (if bytes_eq s (codes "timer") then Some Timer else (if bytes_eq s (codes "uart") then Some Uart else (if bytes_eq s (codes "dma") then Some Dma else (if bytes_eq s (codes "disk") then Some Disk else None))))
+port_kind_of s = if bytes_eq s (codes "null") then Some Null
+    else (if bytes_eq s (codes "timer") then Some Timer
+    else (if bytes_eq s (codes "uart") then Some Uart
+    else (if bytes_eq s (codes "dma") then Some Dma else (if bytes_eq s (codes "disk") then Some Disk else None))))
 
 -- whether it is answered or posted: true where it is posted
 abbrev pub posting_of : List ℕ → Option Bool
-posting_of s = if bytes_eq s (codes "answered") then Some false else (if bytes_eq s (codes "posted") then Some true else None)
+posting_of s = if bytes_eq s (codes "answered") then Some false
+    else (if bytes_eq s (codes "posted") then Some true else None)
 
 -- The kinds that the tables say, where they say one.
 
@@ -69,8 +74,10 @@ machine_keys kind =
 
 -- A window, and the line of a device that has one.
 abbrev pub place_keys : PortKind → List Key
-place_keys Null = required_key (codes "base") (A_number 4096 4294963200 4096) ∷ required_key (codes "size") (A_number 4096 1048576 4096) ∷ []
-place_keys _ = required_key (codes "base") (A_number 4096 4294963200 4096) ∷ required_key (codes "size") (A_number 4096 1048576 4096) ∷ required_key (codes "line") (A_number 0 31 1) ∷ []
+place_keys Null = required_key (codes "base") (A_number 4096 4294963200 4096)
+    ∷ required_key (codes "size") (A_number 4096 1048576 4096) ∷ []
+place_keys _ = required_key (codes "base") (A_number 4096 4294963200 4096)
+    ∷ required_key (codes "size") (A_number 4096 1048576 4096) ∷ required_key (codes "line") (A_number 0 31 1) ∷ []
 
 -- The link to the device.
 abbrev pub link_keys : Bool → List Key
@@ -86,10 +93,12 @@ uart_keys Uart = optional_key (codes "input") A_text ∷ optional_key (codes "ga
 uart_keys _ = []
 
 abbrev pub disk_keys : PortKind → List Key
-disk_keys Disk = required_key (codes "disk") A_text ∷ optional_key (codes "bad") (Ascending 0 32767) ∷ optional_key (codes "result") A_text ∷ []
+disk_keys Disk = required_key (codes "disk") A_text ∷ optional_key (codes "bad") (Ascending 0 32767)
+    ∷ optional_key (codes "result") A_text ∷ []
 disk_keys _ = []
 
--- An entry of the array `port`. Where it says no kind, its keys are those of a device with a line and nothing of its own.
+-- An entry of the array `port`. Where it says no kind, its keys are those of a device with a line and nothing of its
+-- own.
 abbrev pub port_keys : Option PortKind → Bool → List Key
 port_keys said needs_socket =
     let kind = unwrap_or said Timer in

@@ -17,10 +17,13 @@ abbrev pub shared_found : ℕ → Part → ℕ → List Part → Option (ℕ × 
 shared_found a x b [] = None
 shared_found a x b (y ∷ ys) = if share_an_address x y then Some (a, b) else shared_found a x (b + 1) ys
 
--- The first two parts that share an address, of which the first has number a; or twice the same, where that part passes the end.
+-- The first two parts that share an address, of which the first has number a; or twice the same, where that part passes
+-- the end.
 abbrev pub overlap_found : ℕ → List Part → Option (ℕ × ℕ)
 overlap_found a [] = None
-overlap_found a (x ∷ xs) = or_else (if passes_end x then Some (a, a) else None) (or_else (shared_found a x (a + 1) xs) (overlap_found (a + 1) xs))
+overlap_found a (x ∷ xs) =
+    or_else (if passes_end x then Some (a, a) else None)
+    (or_else (shared_found a x (a + 1) xs) (overlap_found (a + 1) xs))
 
 -- RAM begins at 0x80000000; the system block is one page at 0x00100000; behind them the windows by port.
 abbrev pub with_windows : ℕ → List Part → List Part

@@ -88,14 +88,16 @@ any_model = record {
 
 -- The laws, device by device.
 
-access_keeps : (s : AnyDevice) (t : ℕ) (a : Access) (w : Want) → any_seen s ≤ t → any_want s ≡ Some w → (any_want (any_access s t a).0 ≡ Some w) × (any_due (any_access s t a).0 ≡ any_due s)
+access_keeps : (s : AnyDevice) (t : ℕ) (a : Access) (w : Want) → any_seen s ≤ t → any_want s ≡ Some w
+    → (any_want (any_access s t a).0 ≡ Some w) × (any_due (any_access s t a).0 ≡ any_due s)
 access_keeps (Null s) = null_lawful.access_keeps s
 access_keeps (Timer s) = timer_lawful.access_keeps s
 access_keeps (Uart s) = uart_lawful.access_keeps s
 access_keeps (Dma s) = dma_lawful.access_keeps s
 access_keeps (Disk s) = disk_lawful.access_keeps s
 
-advance_keeps : (s : AnyDevice) (t : ℕ) (w : Want) → any_seen s ≤ t → any_want s ≡ Some w → (any_want (any_advance s t) ≡ Some w) × (any_due (any_advance s t) ≡ any_due s)
+advance_keeps : (s : AnyDevice) (t : ℕ) (w : Want) → any_seen s ≤ t → any_want s ≡ Some w
+    → (any_want (any_advance s t) ≡ Some w) × (any_due (any_advance s t) ≡ any_due s)
 advance_keeps (Null s) = null_lawful.advance_keeps s
 advance_keeps (Timer s) = timer_lawful.advance_keeps s
 advance_keeps (Uart s) = uart_lawful.advance_keeps s

@@ -26,7 +26,8 @@ any_read (Script m) addr n = script_model.read m addr n
 
 abbrev pub any_write : AnyMaster → ℕ → List ℕ → List Bool → AnyMaster × ℕ
 any_write (Rv m) addr bytes ons = (Rv (rv_model.write m addr bytes ons).0, (rv_model.write m addr bytes ons).1)
-any_write (Script m) addr bytes ons = (Script (script_model.write m addr bytes ons).0, (script_model.write m addr bytes ons).1)
+any_write (Script m) addr bytes ons =
+    (Script (script_model.write m addr bytes ons).0, (script_model.write m addr bytes ons).1)
 
 abbrev pub any_line : AnyMaster → ℕ → Bool → AnyMaster
 any_line (Rv m) number level = Rv (rv_model.line m number level)
@@ -72,7 +73,8 @@ any_ram (Script m) = m.ram
 
 -- The laws, master by master.
 
-issue_access : (m : AnyMaster) (b : Bus) → (any_issue m).1 ≡ Some b → (b.port < any_reach m) × IsAccess b.access × (any_issued (any_issue m).0 ≡ Some b) × (any_full m ≡ true → all_on (bits_of b.access.lanes b.access.size) ≡ true)
+issue_access : (m : AnyMaster) (b : Bus) → (any_issue m).1 ≡ Some b → (b.port < any_reach m) × IsAccess b.access
+    × (any_issued (any_issue m).0 ≡ Some b) × (any_full m ≡ true → all_on (bits_of b.access.lanes b.access.size) ≡ true)
 issue_access (Rv m) = rv_lawful.issue_access m
 issue_access (Script m) = script_lawful.issue_access m
 
@@ -100,19 +102,27 @@ finish_full : (m : AnyMaster) (x : Answer) → any_full m ≡ true → any_full 
 finish_full (Rv m) = rv_lawful.finish_full m
 finish_full (Script m) = script_lawful.finish_full m
 
-read_is : (m : AnyMaster) (addr n : ℕ) → (length (any_read m addr n).1 ≡ n) × All IsByte (any_read m addr n).1 × (((any_read m addr n).0 ≡ 0) ⊎ (((any_read m addr n).0 ≡ 2) × All (λ b. b ≡ 0) (any_read m addr n).1))
+read_is : (m : AnyMaster) (addr n : ℕ) → (length (any_read m addr n).1 ≡ n) × All IsByte (any_read m addr n).1
+    × (((any_read m addr n).0 ≡ 0) ⊎ (((any_read m addr n).0 ≡ 2) × All (λ b. b ≡ 0) (any_read m addr n).1))
 read_is (Rv m) = rv_lawful.read_is m
 read_is (Script m) = script_lawful.read_is m
 
-write_is : (m : AnyMaster) (addr : ℕ) (bytes : List ℕ) (ons : List Bool) → ((any_write m addr bytes ons).1 ≡ 0) ⊎ ((any_write m addr bytes ons).1 ≡ 2)
+write_is : (m : AnyMaster) (addr : ℕ) (bytes : List ℕ) (ons : List Bool) → ((any_write m addr bytes ons).1 ≡ 0)
+    ⊎ ((any_write m addr bytes ons).1 ≡ 2)
 write_is (Rv m) = rv_lawful.write_is m
 write_is (Script m) = script_lawful.write_is m
 
-write_keeps : (m : AnyMaster) (addr : ℕ) (bytes : List ℕ) (ons : List Bool) → (any_stopped (any_write m addr bytes ons).0 ≡ any_stopped m) × (any_issued (any_write m addr bytes ons).0 ≡ any_issued m) × (any_reach (any_write m addr bytes ons).0 ≤ any_reach m) × (any_full m ≡ true → any_full (any_write m addr bytes ons).0 ≡ true)
+write_keeps : (m : AnyMaster) (addr : ℕ) (bytes : List ℕ) (ons : List Bool)
+    → (any_stopped (any_write m addr bytes ons).0 ≡ any_stopped m)
+    × (any_issued (any_write m addr bytes ons).0 ≡ any_issued m)
+    × (any_reach (any_write m addr bytes ons).0 ≤ any_reach m)
+    × (any_full m ≡ true → any_full (any_write m addr bytes ons).0 ≡ true)
 write_keeps (Rv m) = rv_lawful.write_keeps m
 write_keeps (Script m) = script_lawful.write_keeps m
 
-line_keeps : (m : AnyMaster) (number : ℕ) (level : Bool) → (any_stopped (any_line m number level) ≡ any_stopped m) × (any_issued (any_line m number level) ≡ any_issued m) × (any_reach (any_line m number level) ≤ any_reach m) × (any_full m ≡ true → any_full (any_line m number level) ≡ true)
+line_keeps : (m : AnyMaster) (number : ℕ) (level : Bool) → (any_stopped (any_line m number level) ≡ any_stopped m)
+    × (any_issued (any_line m number level) ≡ any_issued m) × (any_reach (any_line m number level) ≤ any_reach m)
+    × (any_full m ≡ true → any_full (any_line m number level) ≡ true)
 line_keeps (Rv m) = rv_lawful.line_keeps m
 line_keeps (Script m) = script_lawful.line_keeps m
 

@@ -25,13 +25,16 @@ pub record ScriptState : Type 0 where
 abbrev pub fresh_script : List ScriptStep → ℕ → List ℕ → ScriptState
 fresh_script steps ports ram = record { wait = 0; left = steps; issued = None; ports = ports; lines = 0; ram = ram }
 
--- One unit of a step: an access, or the first unit of a wait. A step that doesn't fit the machine is a unit in which nothing happens;
--- no script has one.
+-- One unit of a step: an access, or the first unit of a wait. A step that doesn't fit the machine is a unit in which
+-- nothing happens; no script has one.
 
 abbrev pub issue_step : ScriptState → List ScriptStep → Bool → ScriptStep → ScriptState × Option Bus
 issue_step m rest true (Wait units) = (record m { wait = units - 1; left = rest; issued = None }, None)
-issue_step m rest true (Read port addr size) = (record m { left = rest; issued = bus_of (Read port addr size) }, bus_of (Read port addr size))
-issue_step m rest true (Write port addr size value posted) = (record m { left = rest; issued = bus_of (Write port addr size value posted) }, bus_of (Write port addr size value posted))
+issue_step m rest true (Read port addr size) =
+    (record m { left = rest; issued = bus_of (Read port addr size) }, bus_of (Read port addr size))
+issue_step m rest true (Write port addr size value posted) =
+    (record m { left = rest; issued = bus_of (Write port addr size value posted) },
+    bus_of (Write port addr size value posted))
 issue_step m rest false step = (record m { left = rest; issued = None }, None)
 
 abbrev pub issue_first : ScriptState → List ScriptStep → ScriptState × Option Bus
@@ -67,6 +70,7 @@ script_model = record {
 
 -- A script makes a master that stands before its first unit, or its first faulty line is named.
 abbrev pub Makes : ℕ → List ℕ → List ℕ → Result ScriptState ScriptFault → Type 0
-Makes ports text ram (Ok m) = (steps : List ScriptStep) × (script_of ports text ≡ Ok steps) × (m ≡ fresh_script steps ports ram)
+Makes ports text ram (Ok m) = (steps : List ScriptStep) × (script_of ports text ≡ Ok steps)
+    × (m ≡ fresh_script steps ports ram)
 Makes ports text ram (Err (Line line)) = script_of ports text ≡ Err line
 Makes ports text ram (Err NoMemory) = Unit {0}

@@ -97,6 +97,7 @@ ReadsInto ports text (Err NoMemory) = Unit {0}
 
 -- What adding the steps of a line answers.
 abbrev pub Adds : ℕ → List ℕ → ℕ → List ScriptStep → List ScriptStep → Result Unit ScriptFault → Type 0
-Adds ports line number old new (Ok done) = (steps : List ScriptStep) × (line_steps ports line ≡ Some steps) × (new ≡ old ++ steps)
+Adds ports line number old new (Ok done) = (steps : List ScriptStep) × (line_steps ports line ≡ Some steps)
+    × (new ≡ old ++ steps)
 Adds ports line number old new (Err (Line n)) = (line_steps ports line ≡ None) × (n ≡ number)
 Adds ports line number old new (Err NoMemory) = Unit {0}

@@ -22,4 +22,5 @@ or_else None other = other
 
 -- What a text spells: the number below 2 ^ 64 of which it is the decimal text, or the hexadecimal one behind 0x.
 abbrev pub number : List ℕ → Option ℕ
-number text = or_else (if_text decimal text (digits_value 10 text)) (if_text hex_text text (digits_value 16 (drop 2 text)))
+number text =
+    or_else (if_text decimal text (digits_value 10 text)) (if_text hex_text text (digits_value 16 (drop 2 text)))

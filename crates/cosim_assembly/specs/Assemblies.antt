@@ -20,12 +20,15 @@ use Rattle.cosim_assembly.specs.Images.{image_of}
 -- The first faulty line of the text, and its cause. Bytes that aren't UTF-8 are refused at line 1.
 abbrev pub IsFaulty : List ℕ → ℕ → Cause → Type 0
 IsFaulty bytes number cause =
-    (IsUtf8 bytes × Assembled (program 0x80000000 bytes) (Err (Line number cause))) ⊎ ((IsUtf8 bytes → ⊥) × (number ≡ 1) × (cause ≡ Syntax))
+    (IsUtf8 bytes × Assembled (program 0x80000000 bytes) (Err (Line number cause)))
+        ⊎ ((IsUtf8 bytes → ⊥) × (number ≡ 1) × (cause ≡ Syntax))
 
 -- the image of a text whose first word lies where RAM begins, or why it is refused
 abbrev pub Images : List ℕ → Result (List ℕ) AsmRefusal → Type 0
-Images bytes (Ok image) = IsUtf8 bytes × (words : List ℕ) × Assembled (program 0x80000000 bytes) (Ok words) × (image ≡ image_of words)
-Images bytes (Err fault) = (number : ℕ) × (cause : Cause) × (fault ≡ Assembly number cause) × IsFaulty bytes number cause
+Images bytes (Ok image) = IsUtf8 bytes × (words : List ℕ) × Assembled (program 0x80000000 bytes) (Ok words)
+    × (image ≡ image_of words)
+Images bytes (Err fault) = (number : ℕ) × (cause : Cause) × (fault ≡ Assembly number cause)
+    × IsFaulty bytes number cause
 
 -- Why the bytes gave no image.
 abbrev pub IsRefused : List ℕ → JudgeFault AsmRefusal → Type 0

@@ -35,5 +35,6 @@ sent_line calls port = uart_line port (sent_by calls port)
 abbrev pub run_lines : Direct AnyMaster AnyDevice → List PortConfig → List ℕ
 run_lines r ports =
     flat_map call_text r.calls
-    ++ (stop_line (any_stopped r.master) r.tick ++ hart_lines (any_closing r.master).hart ++ state_lines (any_closing r.master).lines (sha256 (any_ram r.master))
+    ++ (stop_line (any_stopped r.master) r.tick ++ hart_lines (any_closing r.master).hart
+        ++ state_lines (any_closing r.master).lines (sha256 (any_ram r.master))
     ++ flat_map (sent_line r.calls) (uarts_from 0 ports))

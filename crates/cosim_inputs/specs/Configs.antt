@@ -21,7 +21,8 @@ pub record IsConfigRead (sockets : Sockets) (f : Seen Store) (name : List ℕ) (
 
 -- The first rule that it breaks, the files blamed, or no memory.
 abbrev pub IsConfigUnread : Sockets → Seen Store → List ℕ → ReadFault InputsRefusal → Type 0
-IsConfigUnread sockets f name (Refused r) = IsStanding f × (e : ConfigFault) × (r ≡ refusal.Config e) × IfSome f.old (λ m. (bytes : List ℕ) × (m name ≡ Some bytes) × (judged sockets bytes ≡ Err e))
+IsConfigUnread sockets f name (Refused r) = IsStanding f × (e : ConfigFault) × (r ≡ refusal.Config e)
+    × IfSome f.old (λ m. (bytes : List ℕ) × (m name ≡ Some bytes) × (judged sockets bytes ≡ Err e))
 IsConfigUnread sockets f name (Failed n) = IsBlamed f n × Stand f
 IsConfigUnread sockets f name NoMemory = CountStands f × Stand f
 

@@ -56,7 +56,8 @@ steps_in (Err line) = []
 
 abbrev pub master_as : MachineKind → Store → Config → AnyMaster
 master_as machine.Rv m c = Rv (fresh_master (ram_of m c) (record { windows = windows_of c.ports; ram = c.ram }))
-master_as machine.Script m c = Script (fresh_script (steps_in (script_of (length c.ports) (bytes_in m c.script))) (length c.ports) (ram_of m c))
+master_as machine.Script m c =
+    Script (fresh_script (steps_in (script_of (length c.ports) (bytes_in m c.script))) (length c.ports) (ram_of m c))
 
 abbrev pub master_of : Store → Config → AnyMaster
 master_of m c = master_as c.kind m c

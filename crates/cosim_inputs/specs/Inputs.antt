@@ -14,8 +14,8 @@ use Rattle.outcomes.specs.Outcomes.{Outcome, Lacks, Refuses}
 use Rattle.cosim_inputs.specs.declared.refusals.InputsRefusal.{InputsRefusal}
 use Rattle.cosim_inputs.specs.declared.refusals.InputsRefusal.TheVariants.{ImageEmpty, ImageTooLarge, Line, UartInput, DiskImage}
 
--- What a file is read as: the bytes that RAM of a size begins with, the script of a machine with so many ports, or the input or the
--- image of a port's device.
+-- What a file is read as: the bytes that RAM of a size begins with, the script of a machine with so many ports, or the
+-- input or the image of a port's device.
 pub data Role : Type 0 where
   AsImage : (size : ℕ) → Role
   AsScript : (ports : ℕ) → Role
@@ -28,7 +28,8 @@ pub record Asked : Type 0 where
 
 -- RAM begins with at least one byte, and at most as many as it has.
 abbrev pub image_refusal : ℕ → ℕ → Option InputsRefusal
-image_refusal size len = if nat_eq len 0 then Some ImageEmpty else if nat_le len size then None else Some (ImageTooLarge size len)
+image_refusal size len = if nat_eq len 0 then Some ImageEmpty else if nat_le len size then None
+    else Some (ImageTooLarge size len)
 
 abbrev pub line_refusal : Result (List ScriptStep) ℕ → Option InputsRefusal
 line_refusal (Ok steps) = None
@@ -45,7 +46,8 @@ input_refusal port len = if nat_le len 65536 then None else Some (UartInput port
 
 -- A disk has 1 to 32,768 sectors of 512 bytes.
 abbrev pub disk_refusal : ℕ → ℕ → Option InputsRefusal
-disk_refusal port len = if nat_eq (len % 512) 0 && nat_le 512 len && nat_le len 16777216 then None else Some (DiskImage port len)
+disk_refusal port len = if nat_eq (len % 512) 0 && nat_le 512 len
+    && nat_le len 16777216 then None else Some (DiskImage port len)
 
 abbrev pub refusal : Role → List ℕ → Option InputsRefusal
 refusal (AsImage size) bytes = image_refusal size (length bytes)

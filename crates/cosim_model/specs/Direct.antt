@@ -35,7 +35,8 @@ module _ {M S : Type 0} (k : MasterModel M) (d : DeviceModel S) (plan : Plan) wh
     devices = set r.devices b.port (d.access s r.tick b.access).0;
     calls = r.calls ++ call.Access r.tick b.port b.access (plain b.access (d.access s r.tick b.access).1) ∷ [];
     tick = suc r.tick;
-    history = r.history ++ Called (call.Access r.tick b.port b.access (plain b.access (d.access s r.tick b.access).1)) ∷ [];
+    history = r.history ++ Called (call.Access r.tick b.port b.access (plain b.access (d.access s r.tick b.access).1))
+        ∷ [];
   }
 
   abbrev pub unit_of : Direct M S → M → Option Bus → Direct M S
@@ -45,8 +46,8 @@ module _ {M S : Type 0} (k : MasterModel M) (d : DeviceModel S) (plan : Plan) wh
   abbrev pub unit : Direct M S → Direct M S
   unit r = unit_of r (k.issue r.master).0 (k.issue r.master).1
 
-  -- A boundary: every device advances, then the wants are served, that of the least due time first, and that of the least port
-  -- among equals.
+  -- A boundary: every device advances, then the wants are served, that of the least due time first, and that of the
+  -- least port among equals.
 
   abbrev pub due_of : S → Option Want → Option ℕ
   due_of s None = None
@@ -98,8 +99,8 @@ module _ {M S : Type 0} (k : MasterModel M) (d : DeviceModel S) (plan : Plan) wh
   abbrev pub boundary : Direct M S → Direct M S
   boundary r = serve_left (advance_all (mark r))
 
-  -- With n units left: where the master has stopped or none is left, the last boundary; else a boundary where the tick is a
-  -- multiple of the quantum above 0, then a unit.
+  -- With n units left: where the master has stopped or none is left, the last boundary; else a boundary where the tick
+  -- is a multiple of the quantum above 0, then a unit.
 
   abbrev pub boundary_if : Bool → Direct M S → Direct M S
   boundary_if true r = boundary r
@@ -123,7 +124,8 @@ module _ {M S : Type 0} (k : MasterModel M) (d : DeviceModel S) (plan : Plan) wh
 
   abbrev pub advance_device : Direct M S → ℕ → Option S → Direct M S
   advance_device r p None = r
-  advance_device r p (Some s) = serve_port (d.left (d.advance s r.tick)) p (record r { devices = set r.devices p (d.advance s r.tick) })
+  advance_device r p (Some s) =
+      serve_port (d.left (d.advance s r.tick)) p (record r { devices = set r.devices p (d.advance s r.tick) })
 
   abbrev pub each_port : ℕ → ℕ → Direct M S → Direct M S
   each_port zero p r = r
@@ -138,7 +140,8 @@ module _ {M S : Type 0} (k : MasterModel M) (d : DeviceModel S) (plan : Plan) wh
 
   abbrev pub by_port_from : ℕ → Direct M S → Direct M S
   by_port_from zero r = boundary_by_port r
-  by_port_from (suc n) r = if is_some (k.stopped r.master) then boundary_by_port r else by_port_from n (unit (by_port_if (at_quantum plan r.tick) r))
+  by_port_from (suc n) r = if is_some (k.stopped r.master) then boundary_by_port r
+      else by_port_from n (unit (by_port_if (at_quantum plan r.tick) r))
 
   abbrev pub direct_by_port : M → List S → Direct M S
   direct_by_port m devices = by_port_from plan.units (direct_start m devices)

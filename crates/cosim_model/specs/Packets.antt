@@ -105,8 +105,8 @@ count_from k (suc n) = k ∷ count_from (suc k) n
 abbrev pub enabled : BusFields → List Bool
 enabled f = map (is_enabled f.enables) (count_from 0 f.len)
 
--- What an end writes: the extended layout where capability 1 is common, and enables, a byte for each data byte, only where some
--- byte is disabled and capabilities 1 and 2 are common.
+-- What an end writes: the extended layout where capability 1 is common, and enables, a byte for each data byte, only
+-- where some byte is disabled and capabilities 1 and 2 are common.
 
 abbrev pub attributes_of : Caps → ℕ
 attributes_of common = if common.base then 4 else 0
@@ -134,8 +134,8 @@ carried response _ = false
 abbrev pub carries : Packet → Bool
 carries p = carried (is_response p) p.body
 
--- What can be written: fields within their widths, data exactly where they are carried, enables only in the extended layout, and
--- a body of at most 65,536 bytes.
+-- What can be written: fields within their widths, data exactly where they are carried, enables only in the extended
+-- layout, and a body of at most 65,536 bytes.
 
 abbrev pub IsBytes : List ℕ → Type 0
 IsBytes bs = All (λ b. b < 256) bs
@@ -152,7 +152,8 @@ IsBus carries f = (f.time < 2 ^ 64) × (f.attributes < 2 ^ 64) × (f.addr < 2 ^ 
 
 abbrev pub IsBody : Bool → Body → Type 0
 IsBody c Nop = Unit {0}
-IsBody c (Hello major minor caps) = (major < 2 ^ 16) × (minor < 2 ^ 16) × All (λ n. n < 2 ^ 32) caps × (length caps ≤ 16381)
+IsBody c (Hello major minor caps) = (major < 2 ^ 16) × (minor < 2 ^ 16) × All (λ n. n < 2 ^ 32) caps
+    × (length caps ≤ 16381)
 IsBody c (Cfg opt set) = (opt < 2 ^ 32) × (set < 2 ^ 8)
 IsBody c (Read f) = IsBus c f
 IsBody c (Write f) = IsBus c f
@@ -177,13 +178,14 @@ body_size (Write f) = bus_size (is_extended f) f
 body_size (Interrupt time vector line val) = 41
 body_size (Sync time) = 28
 
--- `write` gives the bytes of a packet. `first` is the packet that bytes begin with and its number of bytes, where it is whole.
+-- `write` gives the bytes of a packet. `first` is the packet that bytes begin with and its number of bytes, where it is
+-- whole.
 pub record Codec (F : Type 0) : Type 0 where
   pub write : Packet → List ℕ
   pub first : List ℕ → Option (Decoded F × ℕ)
 
--- A packet that was written is read back, whatever comes behind it, and has the bytes of its fields. What is whole has bytes, and
--- is decided by its own bytes.
+-- A packet that was written is read back, whatever comes behind it, and has the bytes of its fields. What is whole has
+-- bytes, and is decided by its own bytes.
 pub record IsCodec {F : Type 0} (codec : Codec F) : Type 0 where
   pub reads_back : (p : Packet) (rest : List ℕ) → IsWritable p
       → codec.first (codec.write p ++ rest) ≡ Some (Valid p, length (codec.write p))

@@ -57,17 +57,21 @@ lined k m number level false = m
 
 -- The master serves a want.
 abbrev pub served : {M : Type 0} → MasterModel M → M → Want → M × Reply
-served k m (Fetch addr size) = (m, record { code = (k.read m addr size).0; size = size; bytes = padded (k.read m addr size).1 })
-served k m (Store addr size bytes mask) = ((k.write m addr (take size bytes) (bits_of mask size)).0, record { code = (k.write m addr (take size bytes) (bits_of mask size)).1; size = 0; bytes = no_bytes })
-served k m (Line number level) = (lined k m number level (nat_le number 31), record { code = 0; size = 0; bytes = no_bytes })
+served k m (Fetch addr size) =
+    (m, record { code = (k.read m addr size).0; size = size; bytes = padded (k.read m addr size).1 })
+served k m (Store addr size bytes mask) =
+    ((k.write m addr (take size bytes) (bits_of mask size)).0,
+    record { code = (k.write m addr (take size bytes) (bits_of mask size)).1; size = 0; bytes = no_bytes })
+served k m (Line number level) =
+    (lined k m number level (nat_le number 31), record { code = 0; size = 0; bytes = no_bytes })
 
 -- The laws. They hold for every state of the type, also for one that is never reached: a model is total.
 
 abbrev pub IsByte : ℕ → Type 0
 IsByte b = b < 256
 
--- A want has 1 to 64 bytes, no mask bit and no byte but 0 from its size on, and leaves a byte disabled only where the device needs
--- capabilities 1 and 2. Its numbers fit their types.
+-- A want has 1 to 64 bytes, no mask bit and no byte but 0 from its size on, and leaves a byte disabled only where the
+-- device needs capabilities 1 and 2. Its numbers fit their types.
 abbrev pub IsWant : Caps → Want → Type 0
 IsWant needs (Fetch addr size) = (0 < size) × (size ≤ 64) × (addr < 2 ^ 64)
 IsWant needs (Store addr size bytes mask) = (0 < size) × (size ≤ 64) × (addr < 2 ^ 64) × (mask < 2 ^ size)
@@ -78,7 +82,8 @@ IsWant needs (Line number level) = number < 2 ^ 32
 abbrev pub IsSize : ℕ → Type 0
 IsSize n = (n ≡ 1) ⊎ (n ≡ 2) ⊎ (n ≡ 4) ⊎ (n ≡ 8)
 
--- An access has 1, 2, 4 or 8 bytes, and no bit of value or lanes past them; a posted one is a write; a read's value is 0.
+-- An access has 1, 2, 4 or 8 bytes, and no bit of value or lanes past them; a posted one is a write; a read's value is
+-- 0.
 pub record IsAccess (a : Access) : Type 0 where
   pub size : IsSize a.size
   pub addr : a.addr < 2 ^ 64

@@ -14,8 +14,9 @@ use Rattle.cosim_model.specs.Values.{no_caps, bit}
 use Rattle.cosim_model.specs.Packets.{BusFields, Body, Packet, number_of, command_of, cmd_of, is_response, caps_of, offered, is_extended, code_of}
 use Rattle.cosim_model.specs.Packets.Body.{Nop, Hello, Cfg, Read, Write, Interrupt, Sync}
 
--- Requests have two classes, syncs and others: at most one answered request of each class is out each way. `next` is the number of
--- the next own request, `peer_time` the greatest time of the peer's requests, and `count` the packets of this wait (at a machine).
+-- Requests have two classes, syncs and others: at most one answered request of each class is out each way. `next` is
+-- the number of the next own request, `peer_time` the greatest time of the peer's requests, and `count` the packets of
+-- this wait (at a machine).
 pub record Session : Type 0 where
   pub role : Role
   pub offers : Caps
@@ -33,19 +34,25 @@ pub record Session : Type 0 where
   pub fault : Option SessionFault
 
 abbrev pub fresh_session : Role → Caps → Caps → Session
-fresh_session role offers needs = record { role = role; offers = offers; needs = needs; next = 0; common = no_caps; hello_went = false; hello_came = false; own_sync = None; own_other = None; peer_sync = None; peer_other = None; peer_time = 0; count = 0; fault = None }
+fresh_session role offers needs =
+    record { role = role; offers = offers; needs = needs; next = 0; common = no_caps; hello_went = false;
+    hello_came = false; own_sync = None; own_other = None; peer_sync = None; peer_other = None; peer_time = 0;
+    count = 0; fault = None }
 
 abbrev pub next_number : ℕ → ℕ
 next_number n = (n + 1) % 4294967296
 
 abbrev pub both : Caps → Caps → Caps
-both theirs ours = record { base = theirs.base && ours.base; enables = theirs.enables && ours.enables; posted = theirs.posted && ours.posted }
+both theirs ours =
+    record { base = theirs.base && ours.base; enables = theirs.enables && ours.enables; posted = theirs.posted
+    && ours.posted }
 
 abbrev pub at_machine : Role → Bool
 at_machine Machine = true
 at_machine Device = false
 
--- A posted request has no answer: a write with flag bit 2, or an interrupt with that bit or without capability 3 in common.
+-- A posted request has no answer: a write with flag bit 2, or an interrupt with that bit or without capability 3 in
+-- common.
 
 abbrev pub is_posted_body : Caps → Bool → Body → Bool
 is_posted_body common flag (Write f) = flag
@@ -87,7 +94,10 @@ wrong_version _ = None
 -- The least capability that is needed and that the hello lacks.
 
 abbrev pub lacking : Caps → Caps → Option SessionFault
-lacking needs has = or_else (fault_if (needs.base && not has.base) (session_fault.CapMissing 1)) (or_else (fault_if (needs.enables && not has.enables) (session_fault.CapMissing 2)) (fault_if (needs.posted && not has.posted) (session_fault.CapMissing 3)))
+lacking needs has =
+    or_else (fault_if (needs.base && not has.base) (session_fault.CapMissing 1))
+    (or_else (fault_if (needs.enables && not has.enables) (session_fault.CapMissing 2))
+    (fault_if (needs.posted && not has.posted) (session_fault.CapMissing 3)))
 
 abbrev pub hello_lacks : Caps → Body → Option SessionFault
 hello_lacks needs (Hello major minor caps) = lacking needs (caps_of caps)
@@ -119,7 +129,8 @@ stray_answer true s id b = fault_if (not (is_answer_of (own_of s b) id b)) (sess
 
 abbrev pub wrong_len : Option OwnRequest → ℕ → BusFields → Option SessionFault
 wrong_len None id f = None
-wrong_len (Some q) id f = fault_if (nat_eq (code_of f) 0 && not (nat_eq f.len q.len)) (session_fault.WrongAnswer id q.len f.len)
+wrong_len (Some q) id f =
+    fault_if (nat_eq (code_of f) 0 && not (nat_eq f.len q.len)) (session_fault.WrongAnswer id q.len f.len)
 
 abbrev pub wrong_answer : Bool → Session → ℕ → Body → Option SessionFault
 wrong_answer true s id (Read f) = wrong_len s.own_other id f
@@ -132,7 +143,9 @@ is_none_byte [] = true
 is_none_byte (b ∷ bs) = false
 
 abbrev pub bus_beyond : Caps → BusFields → Option SessionFault
-bus_beyond common f = or_else (fault_if (is_extended f && not common.base) (session_fault.CapMissing 1)) (fault_if (not (is_none_byte f.enables) && not common.enables) (session_fault.CapMissing 2))
+bus_beyond common f =
+    or_else (fault_if (is_extended f && not common.base) (session_fault.CapMissing 1))
+    (fault_if (not (is_none_byte f.enables) && not common.enables) (session_fault.CapMissing 2))
 
 abbrev pub not_in_common : Bool → Caps → Body → Option SessionFault
 not_in_common false common (Read f) = bus_beyond common f
@@ -143,7 +156,8 @@ not_in_common _ common _ = None
 abbrev pub time_backwards : Bool → ℕ → Body → Option SessionFault
 time_backwards false had (Read f) = fault_if (nat_lt f.time had) (session_fault.TimeBackwards had f.time)
 time_backwards false had (Write f) = fault_if (nat_lt f.time had) (session_fault.TimeBackwards had f.time)
-time_backwards false had (Interrupt time vector line val) = fault_if (nat_lt time had) (session_fault.TimeBackwards had time)
+time_backwards false had (Interrupt time vector line val) =
+    fault_if (nat_lt time had) (session_fault.TimeBackwards had time)
 time_backwards false had (Sync time) = fault_if (nat_lt time had) (session_fault.TimeBackwards had time)
 time_backwards _ had _ = None
 
@@ -198,7 +212,8 @@ asked_at s p false time = (record s { peer_time = time; peer_other = Some (ticke
 abbrev pub event_of : Session → Packet → Bool → Body → Session × Event
 event_of s p response Nop = (s, Nothing)
 event_of s p response (Cfg opt set) = (s, Nothing)
-event_of s p response (Hello major minor caps) = (record s { hello_came = true; common = both (caps_of caps) s.offers }, Met)
+event_of s p response (Hello major minor caps) =
+    (record s { hello_came = true; common = both (caps_of caps) s.offers }, Met)
 event_of s p true (Sync time) = (record s { own_sync = None }, SyncDone)
 event_of s p true _ = (record s { own_other = None }, Answered)
 event_of s p false (Sync time) = (record s { peer_time = time; peer_sync = Some (ticket_of p) }, Asked (ticket_of p))
@@ -210,7 +225,9 @@ event_of s p false (Interrupt time vector line val) = asked_at s p (is_posted s.
 
 abbrev pub judged : Session → Packet → Option SessionFault → Session × Result Event SessionFault
 judged s p (Some f) = (record s { fault = Some f }, Err f)
-judged s p None = ((event_of (record s { count = counted s.role s.count }) p (is_response p) p.body).0, Ok (event_of s p (is_response p) p.body).1)
+judged s p None =
+    ((event_of (record s { count = counted s.role s.count }) p (is_response p) p.body).0,
+    Ok (event_of s p (is_response p) p.body).1)
 
 abbrev pub take_kept : Session → Packet → Option SessionFault → Session × Result Event SessionFault
 take_kept s p (Some f) = (s, Err f)
@@ -231,8 +248,10 @@ abbrev pub begin_wait : Session → Session
 begin_wait s = record s { count = 0 }
 
 abbrev pub awaiting : Session → Body → ℕ → Session
-awaiting s (Sync time) len = record s { next = next_number s.next; own_sync = Some (record { cmd = command.Sync; id = s.next; len = len }) }
-awaiting s b len = record s { next = next_number s.next; own_other = Some (record { cmd = command_of b; id = s.next; len = len }) }
+awaiting s (Sync time) len =
+    record s { next = next_number s.next; own_sync = Some (record { cmd = command.Sync; id = s.next; len = len }) }
+awaiting s b len =
+    record s { next = next_number s.next; own_other = Some (record { cmd = command_of b; id = s.next; len = len }) }
 
 abbrev pub unless_posted : Bool → Session → Body → ℕ → Session
 unless_posted true s b len = record s { next = next_number s.next }

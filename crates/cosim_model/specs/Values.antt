@@ -50,9 +50,9 @@ padded bs = take 64 (bs ++ replicate 64 0)
 abbrev pub no_bytes : List ℕ
 no_bytes = replicate 64 0
 
--- `plain a x` is what a bus hands back for the access a that a device answered by x: a code above 15 becomes 1, the value is 0
--- for a write or where the code is not 0, and otherwise disabled bytes and bytes past the size are 0. For a posted write it is
--- code 0, value 0.
+-- `plain a x` is what a bus hands back for the access a that a device answered by x: a code above 15 becomes 1, the
+-- value is 0 for a write or where the code is not 0, and otherwise disabled bytes and bytes past the size are 0. For a
+-- posted write it is code 0, value 0.
 
 abbrev pub plain_code : ℕ → ℕ
 plain_code code = if nat_le code 15 then code else 1

@@ -1,5 +1,5 @@
--- What `pack` comes to by the bytes of a file: the canonical spellings of the packets whose lines they are, or the first line
--- that is refused.
+-- What `pack` comes to by the bytes of a file: the canonical spellings of the packets whose lines they are, or the
+-- first line that is refused.
 use Rattle.std.specs.Prelude.{◌≡◌, ℕ, ◌+◌, List, [], ◌∷◌, ◌++◌, length}
 use Rattle.std.specs.Str.{IsUtf8}
 use Rattle.cosim_model.specs.Packets.{Packet}
@@ -10,10 +10,12 @@ use Rattle.outcomes.specs.Outcomes.{Outcome, Refuses, Works}
 use Rattle.cosim_packets.specs.declared.refusals.PackRefusal.{PackRefusal}
 use Rattle.cosim_packets.specs.declared.refusals.PackRefusal.TheVariants.{Line}
 
--- Each line is that of a packet that can be written, and the bytes are the packets' canonical spellings, one behind the other.
+-- Each line is that of a packet that can be written, and the bytes are the packets' canonical spellings, one behind the
+-- other.
 pub data Packs : List (List ℕ) → List ℕ → Type 0 where
   Packs_none : Packs [] []
-  Packs_one : (v : Packet) {ls : List (List ℕ)} {bytes : List ℕ} → IsPackable v → Packs ls bytes → Packs (packet_text v ∷ ls) (packet_bytes v ++ bytes)
+  Packs_one : (v : Packet) {ls : List (List ℕ)} {bytes : List ℕ} → IsPackable v → Packs ls bytes
+      → Packs (packet_text v ∷ ls) (packet_bytes v ++ bytes)
 
 -- a line of no packet that can be written
 pub record IsNoPacket (line : List ℕ) : Type 0 where

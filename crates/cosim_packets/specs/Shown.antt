@@ -1,4 +1,5 @@
--- What `show` comes to by the bytes of a file: the lines of all packets, or a refusal and the lines of the packets before it.
+-- What `show` comes to by the bytes of a file: the lines of all packets, or a refusal and the lines of the packets
+-- before it.
 use Rattle.std.specs.Prelude.{◌≡◌, ℕ, ◌≤◌, Bool, true, false, List, [], ◌∷◌, ◌++◌, length}
 use Rattle.cosim_model.specs.Packets.{Packet}
 use Rattle.rp_packet.specs.declared.fault.PacketFault.{PacketFault}
@@ -14,11 +15,12 @@ abbrev pub IsLoose : Packet → List ℕ → Bool → Type 0
 IsLoose v b true = Canonical v b → ⊥
 IsLoose v b false = Canonical v b
 
--- The bytes are one spelling of each value in order, and the text is their lines, each with the word loose exactly where its
--- spelling isn't the canonical one.
+-- The bytes are one spelling of each value in order, and the text is their lines, each with the word loose exactly
+-- where its spelling isn't the canonical one.
 pub data Listed : List Packet → List ℕ → List ℕ → Type 0 where
   Listed_none : Listed [] [] []
-  Listed_one : (v : Packet) (loose : Bool) {b : List ℕ} {vs : List Packet} {more text : List ℕ} → Spells v b → IsLoose v b loose → Listed vs more text → Listed (v ∷ vs) (b ++ more) (line_of v loose ++ text)
+  Listed_one : (v : Packet) (loose : Bool) {b : List ℕ} {vs : List Packet} {more text : List ℕ} → Spells v b
+      → IsLoose v b loose → Listed vs more text → Listed (v ∷ vs) (b ++ more) (line_of v loose ++ text)
 
 -- The bytes are a stream that ends with a packet, and these are its lines.
 pub record IsWhole (b text : List ℕ) : Type 0 where
@@ -26,8 +28,8 @@ pub record IsWhole (b text : List ℕ) : Type 0 where
   pub stream : Stream values b []
   pub lines : Listed values stream.front text
 
--- The bytes are a stream that ends within a packet, which begins at a place and of which so many bytes are there; and these are
--- the lines of the packets before it.
+-- The bytes are a stream that ends within a packet, which begins at a place and of which so many bytes are there; and
+-- these are the lines of the packets before it.
 pub record IsCutOff (b : List ℕ) (start held : ℕ) (text : List ℕ) : Type 0 where
   pub values : List Packet
   pub rest : List ℕ

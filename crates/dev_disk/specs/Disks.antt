@@ -36,7 +36,9 @@ pub record DiskRegisters : Type 0 where
   pub bad : List ℕ
 
 abbrev pub fresh_disk : ℕ → List ℕ → List ℕ → DiskRegisters
-fresh_disk line image bad = record { sector = 0; count = 0; address = 0; to_disk = false; enabled = false; done = false; error = false; engine = Idle; wire = fresh_wire line; sectors = image; bad = bad }
+fresh_disk line image bad =
+    record { sector = 0; count = 0; address = 0; to_disk = false; enabled = false; done = false; error = false;
+    engine = Idle; wire = fresh_wire line; sectors = image; bad = bad }
 
 abbrev pub is_busy : Engine → Bool
 is_busy Idle = false
@@ -53,11 +55,13 @@ level s = level_of s.enabled s.done (is_busy s.engine)
 abbrev pub size : List ℕ → ℕ
 size sectors = length sectors / 512
 
--- The engine's want: a chunk of the machine's memory to the disk, or a chunk of the disk to the memory. Addresses are sums in 64
--- bits.
+-- The engine's want: a chunk of the machine's memory to the disk, or a chunk of the disk to the memory. Addresses are
+-- sums in 64 bits.
 abbrev pub transfer : DiskRegisters → (after : ℕ) → (to_disk : Bool) → Want
 transfer s after true = want.Fetch (min s.address 4294967295 + place_of s.count after) 64
-transfer s after false = want.Store (min s.address 4294967295 + place_of s.count after) 64 (chunk_of (take 64 (drop (disk_place s.sector s.count after) s.sectors))) 18446744073709551615
+transfer s after false =
+    want.Store (min s.address 4294967295 + place_of s.count after) 64
+    (chunk_of (take 64 (drop (disk_place s.sector s.count after) s.sectors))) 18446744073709551615
 
 abbrev pub chunk_want : DiskRegisters → Engine → Option Want
 chunk_want s Idle = None
@@ -76,7 +80,9 @@ present s after false = record s { engine = Busy after }
 -- Registers.
 
 abbrev pub register_at : ℕ → Option Register
-register_at addr = if nat_eq addr 0 then Some Sector else if nat_eq addr 4 then Some Count else if nat_eq addr 8 then Some Address else if nat_eq addr 12 then Some Control else if nat_eq addr 16 then Some Status else if nat_eq addr 20 then Some Size else None
+register_at addr = if nat_eq addr 0 then Some Sector else if nat_eq addr 4 then Some Count else if nat_eq addr 8
+    then Some Address else if nat_eq addr 12 then Some Control else if nat_eq addr 16 then Some Status else
+    if nat_eq addr 20 then Some Size else None
 
 abbrev pub register_read : DiskRegisters → Register → Answer
 register_read s Sector = given s.sector
@@ -86,12 +92,15 @@ register_read s Control = given (2 * flag s.to_disk + 4 * flag s.enabled)
 register_read s Status = given (flag (is_busy s.engine) + 2 * flag s.done + 4 * flag s.error)
 register_read s Size = given (size s.sectors)
 
--- CONTROL is refused as a whole while the engine is busy, and a start where COUNT is not 1 to 128 or the sectors aren't on the disk.
+-- CONTROL is refused as a whole while the engine is busy, and a start where COUNT is not 1 to 128 or the sectors aren't
+-- on the disk.
 abbrev pub can_start : DiskRegisters → Bool
 can_start s = nat_le 1 s.count && nat_le s.count 128 && nat_le (s.sector + s.count) (size s.sectors)
 
 abbrev pub started : DiskRegisters → (to_disk enabled can : Bool) → DiskRegisters × Answer
-started s to_disk enabled true = (present (record s { to_disk = to_disk; enabled = enabled; done = false; error = false }) (8 * s.count - 1) (is_bad s.bad s.sector), given 0)
+started s to_disk enabled true =
+    (present (record s { to_disk = to_disk; enabled = enabled; done = false; error = false }) (8 * s.count - 1)
+    (is_bad s.bad s.sector), given 0)
 started s to_disk enabled false = (s, refused 1)
 
 abbrev pub controlled : DiskRegisters → (starts to_disk enabled : Bool) → DiskRegisters × Answer
@@ -107,7 +116,9 @@ abbrev pub register_written : DiskRegisters → Register → ℕ → DiskRegiste
 register_written s Sector value = unless_busy s (record s { sector = value }, given 0) (is_busy s.engine)
 register_written s Count value = unless_busy s (record s { count = value }, given 0) (is_busy s.engine)
 register_written s Address value = unless_busy s (record s { address = value }, given 0) (is_busy s.engine)
-register_written s Control value = unless_busy s (controlled s (nat_eq (value % 2) 1) (nat_eq (value / 2 % 2) 1) (nat_eq (value / 4 % 2) 1)) (is_busy s.engine)
+register_written s Control value =
+    unless_busy s (controlled s (nat_eq (value % 2) 1) (nat_eq (value / 2 % 2) 1) (nat_eq (value / 4 % 2) 1))
+    (is_busy s.engine)
 register_written s Status value = (record s { done = false; error = false }, given 0)
 register_written s Size value = (s, refused 1)
 
@@ -143,7 +154,9 @@ transferred s (suc after) = continued s after (is_bad s.bad (sector_at s.sector 
 
 abbrev pub worked : DiskRegisters → Engine → ℕ → List ℕ → DiskRegisters
 worked s Idle code bytes = s
-worked s (Busy after) zero bytes = transferred (record s { sectors = taken_in s.to_disk s.sectors (disk_place s.sector s.count after) bytes }) (min after 1023)
+worked s (Busy after) zero bytes =
+    transferred (record s { sectors = taken_in s.to_disk s.sectors (disk_place s.sector s.count after) bytes })
+    (min after 1023)
 worked s (Busy after) (suc code) bytes = ended s true
 
 -- A pending level is fed before a chunk.
@@ -153,7 +166,8 @@ fed s reply false = worked s s.engine reply.code reply.bytes
 
 abbrev pub disk_model : DeviceModel DiskRegisters
 disk_model = record {
-  access = λ s tick a. (settled (is_busy s.engine) (acted (advanced s tick) (requested a)).0, (acted (advanced s tick) (requested a)).1);
+  access = λ s tick a. (settled (is_busy s.engine) (acted (advanced s tick) (requested a)).0,
+      (acted (advanced s tick) (requested a)).1);
   advance = advanced;
   want = λ s. wanted_before s.wire (chunk_want s s.engine);
   feed = λ s reply. fed s reply s.wire.pending;

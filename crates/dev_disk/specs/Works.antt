@@ -39,4 +39,5 @@ pub record IsChunk (sector count after : ℕ) (sectors : List ℕ) : Type 0 wher
 -- The present chunk of work that runs is in no bad sector.
 abbrev pub IsRunning : (sector count : ℕ) → Engine → (sectors bad : List ℕ) → Type 0
 IsRunning sector count Idle sectors bad = Unit {0}
-IsRunning sector count (Busy after) sectors bad = IsChunk sector count after sectors × (is_bad bad (sector_at sector count after) ≡ false)
+IsRunning sector count (Busy after) sectors bad = IsChunk sector count after sectors
+    × (is_bad bad (sector_at sector count after) ≡ false)

@@ -16,8 +16,8 @@ abbrev pub size_of : ℕ → ℕ → ℕ
 size_of len zero = (len - 1) % 64 + 1
 size_of len (suc after) = 64
 
--- Byte j of the copy is enabled where bit j modulo 32 of the mask is 1. A chunk's place is a multiple of 64, so its bits are the
--- mask twice, cut to its size.
+-- Byte j of the copy is enabled where bit j modulo 32 of the mask is 1. A chunk's place is a multiple of 64, so its
+-- bits are the mask twice, cut to its size.
 abbrev pub mask_of : ℕ → ℕ → ℕ
 mask_of mask size = (mask + mask * 2 ^ 32) % 2 ^ size
 

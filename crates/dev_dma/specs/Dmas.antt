@@ -32,7 +32,9 @@ pub record DmaRegisters : Type 0 where
   pub wire : WireState
 
 abbrev pub fresh_dma : ℕ → DmaRegisters
-fresh_dma line = record { source = 0; destination = 0; len = 0; mask = 4294967295; enabled = false; done = false; error = false; engine = Idle; wire = fresh_wire line }
+fresh_dma line =
+    record { source = 0; destination = 0; len = 0; mask = 4294967295; enabled = false; done = false; error = false;
+    engine = Idle; wire = fresh_wire line }
 
 abbrev pub is_busy : Engine → Bool
 is_busy Idle = false
@@ -50,7 +52,9 @@ level s = level_of s.enabled s.done (is_busy s.engine)
 abbrev pub chunk_want : DmaRegisters → Engine → Option Want
 chunk_want s Idle = None
 chunk_want s (Fetching after) = Some (want.Fetch (min s.source 4294967295 + place_of s.len after) (size_of s.len after))
-chunk_want s (Storing after bytes) = Some (want.Store (min s.destination 4294967295 + place_of s.len after) (size_of s.len after) (chunk_of (take (size_of s.len after) bytes)) (mask_of s.mask (size_of s.len after)))
+chunk_want s (Storing after bytes) =
+    Some (want.Store (min s.destination 4294967295 + place_of s.len after) (size_of s.len after)
+    (chunk_of (take (size_of s.len after) bytes)) (mask_of s.mask (size_of s.len after)))
 
 -- Twice the unfinished chunks and 1, and 1 less where the present chunk was fetched. There are at most 1,024 chunks.
 abbrev pub engine_left : Engine → ℕ
@@ -61,7 +65,9 @@ engine_left (Storing after bytes) = 2 * (min after 1023 + 1)
 -- Registers.
 
 abbrev pub register_at : ℕ → Option Register
-register_at addr = if nat_eq addr 0 then Some Source else if nat_eq addr 4 then Some Destination else if nat_eq addr 8 then Some Length else if nat_eq addr 12 then Some Mask else if nat_eq addr 16 then Some Control else if nat_eq addr 20 then Some Status else None
+register_at addr = if nat_eq addr 0 then Some Source else if nat_eq addr 4 then Some Destination else if nat_eq addr 8
+    then Some Length else if nat_eq addr 12 then Some Mask else if nat_eq addr 16 then Some Control else
+    if nat_eq addr 20 then Some Status else None
 
 abbrev pub register_read : DmaRegisters → Register → Answer
 register_read s Source = given s.source
@@ -76,7 +82,8 @@ abbrev pub can_start : (busy : Bool) → ℕ → Bool
 can_start busy len = not busy && nat_le 1 len && nat_le len 65536
 
 abbrev pub started : DmaRegisters → (enabled can : Bool) → DmaRegisters × Answer
-started s enabled true = (record s { enabled = enabled; done = false; error = false; engine = Fetching (after_first s.len) }, given 0)
+started s enabled true =
+    (record s { enabled = enabled; done = false; error = false; engine = Fetching (after_first s.len) }, given 0)
 started s enabled false = (s, refused 1)
 
 abbrev pub controlled : DmaRegisters → (starts enabled : Bool) → DmaRegisters × Answer
@@ -142,7 +149,8 @@ dma_needs = record { base = true; enables = true; posted = false }
 
 abbrev pub dma_model : DeviceModel DmaRegisters
 dma_model = record {
-  access = λ s tick a. (settled (is_busy s.engine) (acted (advanced s tick) (requested a)).0, (acted (advanced s tick) (requested a)).1);
+  access = λ s tick a. (settled (is_busy s.engine) (acted (advanced s tick) (requested a)).0,
+      (acted (advanced s tick) (requested a)).1);
   advance = advanced;
   want = λ s. wanted_before s.wire (chunk_want s s.engine);
   feed = λ s reply. fed s reply s.wire.pending;

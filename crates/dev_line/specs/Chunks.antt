@@ -30,7 +30,8 @@ take-past n xs ys few =
     ap (λ k. take k (xs ++ ys)) long ∙ take-append-add xs ys (n - length xs)
 
 pub padded-is : (xs : List ℕ) → length xs ≤ 64 → padded xs ≡ xs ++ replicate (64 - length xs) 0
-padded-is xs few = take-past 64 xs (replicate 64 0) few ∙ ap (λ ys. xs ++ ys) (take-replicate (64 - length xs) 64 0 (omega arith))
+padded-is xs few = take-past 64 xs (replicate 64 0) few
+    ∙ ap (λ ys. xs ++ ys) (take-replicate (64 - length xs) 64 0 (omega arith))
 
 pub length-padded : (xs : List ℕ) → length (padded xs) ≡ 64
 length-padded xs =
@@ -42,8 +43,12 @@ pub padded-take : (xs : List ℕ) (n : ℕ) → length xs ≤ n → n ≤ 64 →
 padded-take xs n few most =
     let zeros : ℕ → List ℕ = λ k. replicate k 0 in
     let front : take n (padded xs) ≡ xs ++ zeros (n - length xs) =
-    (ap (take n) (padded-is xs (omega arith)) ∙ take-past n xs _ few ∙ ap (λ ys. xs ++ ys) (take-replicate (n - length xs) (64 - length xs) 0 (omega arith))) in
-    let long : length (xs ++ zeros (n - length xs)) ≡ n = (length-append xs (zeros (n - length xs)) ∙ ap (λ k. length xs + k) (length-replicate (n - length xs) 0) ∙ (omega arith)) in
+    (ap (take n) (padded-is xs (omega arith)) ∙ take-past n xs _ few
+        ∙ ap (λ ys. xs ++ ys) (take-replicate (n - length xs) (64 - length xs) 0 (omega arith))) in
+    let long : length (xs ++ zeros (n - length xs))
+        ≡ n =
+        (length-append xs (zeros (n - length xs)) ∙ ap (λ k. length xs + k) (length-replicate (n - length xs) 0)
+        ∙ (omega arith)) in
     ap padded front
     ∙ padded-is (xs ++ zeros (n - length xs)) (omega arith)
     ∙ ap (λ k. (xs ++ zeros (n - length xs)) ++ zeros (64 - k)) long
@@ -51,7 +56,8 @@ padded-take xs n few most =
     ∙ ap (λ ys. xs ++ ys) (replicate-append-replicate (n - length xs) (64 - n) 0 ∙ ap zeros (omega arith))
     ∙ sym (padded-is xs (omega arith))
 
-pub chunk_of-is : (bytes : List ℕ) → length bytes ≤ 64 → ((i : ℕ) → get_or bytes i 0 < 256) → chunk_of bytes ≡ bytes ++ replicate (64 - length bytes) 0
+pub chunk_of-is : (bytes : List ℕ) → length bytes ≤ 64 → ((i : ℕ) → get_or bytes i 0 < 256) → chunk_of bytes ≡ bytes
+    ++ replicate (64 - length bytes) 0
 unfolding chunk_of
 chunk_of-is bytes few all = ap padded (map-byte bytes all) ∙ padded-is bytes few
 
@@ -59,7 +65,8 @@ pub length-chunk_of : (bytes : List ℕ) → length (chunk_of bytes) ≡ 64
 unfolding chunk_of
 length-chunk_of bytes = length-padded (map (λ b. min b 255) bytes)
 
-pub chunk_of-take : (bytes : List ℕ) (n : ℕ) → length bytes ≤ n → n ≤ 64 → chunk_of bytes ≡ padded (take n (chunk_of bytes))
+pub chunk_of-take : (bytes : List ℕ) (n : ℕ) → length bytes ≤ n → n ≤ 64 → chunk_of bytes
+    ≡ padded (take n (chunk_of bytes))
 unfolding chunk_of
 chunk_of-take bytes n few most =
     let same = length-map bytes (λ b. min b 255) in

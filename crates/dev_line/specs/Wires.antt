@@ -3,9 +3,9 @@ use Rattle.std.specs.Prelude.{ℕ, ◌<◌, Bool, true, false, not, ◌||◌, if
 use Rattle.cosim_model.specs.declared.values.Want.{Want}
 use Rattle.cosim_model.specs.declared.values.Want.TheVariants as want
 
--- An interrupt line as its device drives it. `shown` is the level that was fed last. At most one level is pending, and it is the
--- one that isn't shown. `due` is the tick at which the device's present want became the present one, and `seen` the tick that
--- the device was brought to.
+-- An interrupt line as its device drives it. `shown` is the level that was fed last. At most one level is pending, and
+-- it is the one that isn't shown. `due` is the tick at which the device's present want became the present one, and
+-- `seen` the tick that the device was brought to.
 pub record WireState : Type 0 where
   pub line : ℕ
   pub shown : Bool
@@ -34,8 +34,8 @@ ruled_by w false true works = record w { pending = true; due = w.seen }
 ruled_by w false false true = record w { due = w.seen }
 ruled_by w false false false = w
 
--- The line rule at `seen`: where nothing is wanted and the level isn't the one that is shown, the level becomes pending. `wanted`
--- says whether another want than a level was there, and stays; `works` whether one is there now.
+-- The line rule at `seen`: where nothing is wanted and the level isn't the one that is shown, the level becomes
+-- pending. `wanted` says whether another want than a level was there, and stays; `works` whether one is there now.
 abbrev pub ruled : WireState → (wanted level works : Bool) → WireState
 ruled w wanted level works = ruled_by w (w.pending || wanted) (differ w.shown level) works
 
@@ -65,8 +65,8 @@ passed w (Some rises) tick = moved (risen w rises (nat_le rises tick)) tick
 abbrev pub wanted_before : WireState → Option Want → Option Want
 wanted_before w rest = if w.pending then Some (want.Line (min w.line 4294967295) (not w.shown)) else rest
 
--- How many levels are left at most: none without a pending one, 1 where the pending level is the level now, 2 where the level has
--- changed back.
+-- How many levels are left at most: none without a pending one, 1 where the pending level is the level now, 2 where the
+-- level has changed back.
 abbrev pub levels_by : (pending differs : Bool) → ℕ
 levels_by false differs = 0
 levels_by true true = 1

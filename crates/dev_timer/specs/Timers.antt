@@ -31,7 +31,8 @@ abbrev pub advanced : TimerRegisters → ℕ → TimerRegisters
 advanced s tick = record s { wire = passed s.wire (rises s) tick }
 
 abbrev pub register_at : ℕ → Option Register
-register_at addr = if nat_eq addr 0 then Some Now else if nat_eq addr 4 then Some Compare else if nat_eq addr 8 then Some Control else None
+register_at addr = if nat_eq addr 0 then Some Now else if nat_eq addr 4 then Some Compare else if nat_eq addr 8
+    then Some Control else None
 
 abbrev pub register_read : TimerRegisters → Register → Answer
 register_read s Now = given (low_word s.wire.seen)

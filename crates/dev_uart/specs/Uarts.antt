@@ -23,7 +23,8 @@ pub record UartRegisters : Type 0 where
   pub wire : WireState
 
 abbrev pub fresh_uart : ℕ → List ℕ → ℕ → UartRegisters
-fresh_uart line input gap = record { input = input; gap = gap; taken = 0; enabled = false; sent = []; wire = fresh_wire line }
+fresh_uart line input gap =
+    record { input = input; gap = gap; taken = 0; enabled = false; sent = []; wire = fresh_wire line }
 
 -- When the next byte that isn't taken arrives: byte i of the input arrives at tick (i + 1) times the gap.
 abbrev pub arrival : UartRegisters → Option ℕ
@@ -43,7 +44,8 @@ abbrev pub advanced : UartRegisters → ℕ → UartRegisters
 advanced s tick = record s { wire = passed s.wire (rises s) tick }
 
 abbrev pub register_at : ℕ → Option Register
-register_at addr = if nat_eq addr 0 then Some Data else if nat_eq addr 4 then Some Status else if nat_eq addr 8 then Some Control else None
+register_at addr = if nat_eq addr 0 then Some Data else if nat_eq addr 4 then Some Status else if nat_eq addr 8
+    then Some Control else None
 
 -- A read of DATA takes the next arrived byte, or gives 0 where there is none.
 abbrev pub taken_if : UartRegisters → Bool → UartRegisters × Answer

@@ -19,7 +19,8 @@ module _ {M S : Type 0} (k : MasterModel M) (d : DeviceModel S) where
   -- with n units left
   abbrev pub run_from : WantOrder → Plan → ℕ → Direct M S → Direct M S
   run_from order plan zero r = boundary_in order plan r
-  run_from order plan (suc n) r = if is_some (k.stopped r.master) then boundary_in order plan r else run_from order plan n (unit k d plan (boundary_if order plan (at_quantum plan r.tick) r))
+  run_from order plan (suc n) r = if is_some (k.stopped r.master) then boundary_in order plan r
+      else run_from order plan n (unit k d plan (boundary_if order plan (at_quantum plan r.tick) r))
 
   -- the definition's machine of that order
   abbrev pub direct_in : WantOrder → Plan → M → List S → Direct M S

@@ -12,7 +12,8 @@ pub record Gives {M S : Type 0} (machine : model.Direct M S) (result : Direct M 
   pub calls : result.calls.calls ≡ machine.calls
   pub ticks : result.ticks ≡ machine.tick
 
--- A master and devices that a run may begin with: at most 16 devices at tick 0, all that the master names, and nothing issued.
+-- A master and devices that a run may begin with: at most 16 devices at tick 0, all that the master names, and nothing
+-- issued.
 pub record IsFresh {M S : Type 0} (k : MasterModel M) (d : DeviceModel S) (master : M) (devices : List S) : Type 0 where
   pub ports : length devices ≤ 16
   pub seen : All (λ (s : S). d.seen s ≡ 0) devices

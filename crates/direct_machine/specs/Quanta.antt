@@ -19,7 +19,8 @@ pub record IsNext (quantum tick next : ℕ) : Type 0 where
   pub between : (t : ℕ) → tick ≤ t → t < next → at_multiple quantum t ≡ false
 
 -- Where the tick is a multiple there was a boundary, and the multiple after the tick is known.
-pub record Meets {M S : Type 0} (k : MasterModel M) (d : DeviceModel S) (order : WantOrder) (quantum : ℕ) (old new : Run M S) (next : ℕ) : Type 0 where
+pub record Meets {M S : Type 0} (k : MasterModel M) (d : DeviceModel S) (order : WantOrder) (quantum : ℕ)
+    (old new : Run M S) (next : ℕ) : Type 0 where
   pub leads : Leads (λ plan r. boundary_if k d order plan (at_multiple quantum r.tick) r) old new
   pub ready : IsReady k d new
   pub tick : new.tick ≡ old.tick

@@ -11,13 +11,16 @@ use Rattle.direct_machine.specs.Wants.{first_port}
 
 -- The direct machine that has come as far, with a history.
 abbrev pub at : {M S : Type 0} → Run M S → List Moment → Direct M S
-at r history = record { master = r.master; devices = r.devices.items; calls = r.calls.calls; tick = r.tick; history = history }
+at r history =
+    record { master = r.master; devices = r.devices.items; calls = r.calls.calls; tick = r.tick; history = history }
 
 -- Whatever came before, a step of the direct machine leads from where the one is to where the other is.
 abbrev pub Leads : {M S : Type 0} → (Plan → Direct M S → Direct M S) → Run M S → Run M S → Type 0
-Leads step old new = (plan : Plan) (before : List Moment) → (after : List Moment) × (step plan (at old before) ≡ at new after)
+Leads step old new = (plan : Plan) (before : List Moment) → (after : List Moment)
+    × (step plan (at old before) ≡ at new after)
 
--- It stands between two units: there are at most 16 ports, all that the master names, nothing is issued, and no device is ahead.
+-- It stands between two units: there are at most 16 ports, all that the master names, nothing is issued, and no device
+-- is ahead.
 pub record IsReady {M S : Type 0} (k : MasterModel M) (d : DeviceModel S) (r : Run M S) : Type 0 where
   pub ports : length r.devices.items ≤ 16
   pub reach : k.reach r.master ≤ length r.devices.items
@@ -34,14 +37,16 @@ pub record IsIssued {M S : Type 0} (k : MasterModel M) (d : DeviceModel S) (r : 
   pub access : IsAccess bus.access
 
 -- The want of a port was served.
-pub record HasServed {M S : Type 0} (k : MasterModel M) (d : DeviceModel S) (port : ℕ) (old new : Run M S) : Type 0 where
+pub record HasServed {M S : Type 0} (k : MasterModel M) (d : DeviceModel S) (port : ℕ) (old new : Run M S)
+    : Type 0 where
   pub device : S
   pub want : Want
   pub there : slice_get old.devices.items port ≡ Some device
   pub wants : d.want device ≡ Some want
   pub master : new.master ≡ (served k old.master want).0
   pub devices : new.devices.items ≡ set old.devices.items port (d.feed device (served k old.master want).1)
-  pub calls : new.calls.calls ≡ old.calls.calls ++ call.Served old.tick port (d.due device) want (served k old.master want).1 ∷ []
+  pub calls : new.calls.calls ≡ old.calls.calls
+      ++ call.Served old.tick port (d.due device) want (served k old.master want).1 ∷ []
   pub tick : new.tick ≡ old.tick
 
 -- There was none.

@@ -5,7 +5,8 @@ use Rattle.cosim_model.specs.Packets.Body.{Nop, Hello, Cfg, Read, Write, Interru
 use Rattle.cosim_model.specs.Packets.Decoded.{Valid, Malformed}
 
 abbrev pub bus_numbers : BusFields → List ℕ
-bus_numbers f = f.time ∷ f.attributes ∷ f.addr ∷ f.len ∷ f.width ∷ f.stream_width ∷ f.master ∷ length f.payload ∷ length f.enables ∷ f.payload ++ f.enables
+bus_numbers f = f.time ∷ f.attributes ∷ f.addr ∷ f.len ∷ f.width ∷ f.stream_width ∷ f.master ∷ length f.payload
+    ∷ length f.enables ∷ f.payload ++ f.enables
 
 abbrev pub numbers_of : Body → List ℕ
 numbers_of Nop = 0 ∷ []
@@ -26,8 +27,12 @@ write_fields p = body_size p.body ∷ fields_of p ++ replicate (body_size p.body
 -- Reading: by the number of the command.
 
 abbrev pub bus_from : List ℕ → BusFields
-bus_from (time ∷ attributes ∷ addr ∷ len ∷ width ∷ stream_width ∷ master ∷ n ∷ k ∷ rest) = record { time = time; attributes = attributes; addr = addr; len = len; width = width; stream_width = stream_width; master = master; payload = take n rest; enables = take k (drop n rest) }
-bus_from _ = record { time = 0; attributes = 0; addr = 0; len = 0; width = 0; stream_width = 0; master = 0; payload = []; enables = [] }
+bus_from (time ∷ attributes ∷ addr ∷ len ∷ width ∷ stream_width ∷ master ∷ n ∷ k ∷ rest) =
+    record { time = time; attributes = attributes; addr = addr; len = len; width = width; stream_width = stream_width;
+    master = master; payload = take n rest; enables = take k (drop n rest) }
+bus_from _ =
+    record { time = 0; attributes = 0; addr = 0; len = 0; width = 0; stream_width = 0; master = 0; payload = [];
+    enables = [] }
 
 abbrev pub hello_from : List ℕ → Body
 hello_from (major ∷ minor ∷ n ∷ rest) = Hello major minor (take n rest)
@@ -56,7 +61,8 @@ body_from (suc (suc (suc (suc (suc (suc n)))))) rest = sync_from rest
 
 -- F is why bytes are no packet, and f the reason.
 abbrev pub packet_from : {F : Type 0} → F → List ℕ → Decoded F
-packet_from f (id ∷ flags ∷ dev ∷ cmd ∷ rest) = Valid (record { id = id; flags = flags; dev = dev; body = body_from cmd rest })
+packet_from f (id ∷ flags ∷ dev ∷ cmd ∷ rest) =
+    Valid (record { id = id; flags = flags; dev = dev; body = body_from cmd rest })
 packet_from f _ = Malformed f
 
 abbrev pub if_whole : {F : Type 0} → F → ℕ → List ℕ → Bool → Option (Decoded F × ℕ)

@@ -1,5 +1,5 @@
--- What a command comes to by the files alone, and how its call ends by that: the form in which every command over files states its
--- promise. `R` is what the command refuses.
+-- What a command comes to by the files alone, and how its call ends by that: the form in which every command over files
+-- states its promise. `R` is what the command refuses.
 use Rattle.std.specs.Prelude.{ℕ, ◌≡◌, ◌⊎◌, ◌<◌, ◌≤◌, List, [], ◌∷◌, ◌++◌, length, IfSome, IsSomeAnd, if◌then◌else◌}
 use Rattle.std.specs.Str.{bytes_eq}
 use Rattle.std.specs.declared.option.Option.{Option}
@@ -22,8 +22,8 @@ pub record Written : Type 0 where
   pub name : List ℕ
   pub bytes : List ℕ
 
--- The first file that it reads and that isn't there; or what it refuses, and the text that it prints before; or its work: the files
--- that it writes, in this order, and the text that it prints then.
+-- The first file that it reads and that isn't there; or what it refuses, and the text that it prints before; or its
+-- work: the files that it writes, in this order, and the text that it prints then.
 pub data Outcome (R : Type 0) : Type 0 where
   Lacks : List ℕ → Outcome R
   Refuses : R → List ℕ → Outcome R
@@ -68,7 +68,8 @@ pub record StopsAt (files : List Written) : Type 0 where
   pub all : files ≡ done ++ (one ∷ left)
 
 abbrev pub HoldBut : Seen Store → List Written → List ℕ → Type 0
-HoldBut f done but = IfSome f.old (λ m. IfSome f.new (λ n. (name : List ℕ) → (name ≡ but → ⊥) → n name ≡ with_files m done name))
+HoldBut f done but =
+    IfSome f.old (λ m. IfSome f.new (λ n. (name : List ℕ) → (name ≡ but → ⊥) → n name ≡ with_files m done name))
 
 abbrev pub HoldSome : Seen Store → List Written → Type 0
 HoldSome f done = IfSome f.old (λ m. IfSome f.new (λ n. (name : List ℕ) → n name ≡ with_files m done name))
@@ -93,8 +94,8 @@ PrintsBefore k (x ∷ xs) = IsPut k (x ∷ xs)
 
 -- How the call of a command ends that comes to such outcomes.
 
--- An object of the outside is blamed only where its count rose; otherwise the counts of the files and of `out` stand, but that the
--- text before a refusal may fail.
+-- An object of the outside is blamed only where its count rose; otherwise the counts of the files and of `out` stand,
+-- but that the text before a refusal may fail.
 abbrev pub Blames : {R : Type 0} → Seen Store → Seen (List ℕ) → Result Unit (Stop R) → Type 0
 Blames f k (Ok u) = CountStands f × CountStands k
 Blames f k (Err (Refused r)) = CountStands f × (k.before ≤ k.now)
@@ -105,27 +106,34 @@ Blames f k (Err (Outside (object.Link port) n)) = ⊥
 Blames f k (Err (Outside object.Spawner n)) = ⊥
 Blames f k (Err NoMemory) = CountStands f × CountStands k
 
--- Its work is done; or it is refused, and no file is other than it was; or a file couldn't be read, or writing the files stopped, and
--- nothing is printed; or printing stopped, after all files were written.
+-- Its work is done; or it is refused, and no file is other than it was; or a file couldn't be read, or writing the
+-- files stopped, and nothing is printed; or printing stopped, after all files were written.
 abbrev pub Ends : {R : Type 0} → (Outcome R → Type 0) → Seen Store → Seen (List ℕ) → Result Unit (Stop R) → Type 0
-Ends Comes f k (Ok u) = (files : List Written) × (text : List ℕ) × Comes (Works files text) × Hold f files × PrintsAll k text
+Ends Comes f k (Ok u) = (files : List Written) × (text : List ℕ) × Comes (Works files text) × Hold f files
+    × PrintsAll k text
 Ends Comes f k (Err (Refused r)) = (text : List ℕ) × Comes (Refuses r text) × StandTold f × PrintsBefore k text
 Ends Comes f k (Err (Outside object.Files n)) = IsUntouched k
-    × (Stand f ⊎ ((files : List Written) × (text : List ℕ) × Comes (Works files text) × (at : StopsAt files) × HoldBut f at.done at.one.name))
-Ends Comes f k (Err (Outside object.Out n)) = (files : List Written) × (text : List ℕ) × Comes (Works files text) × Hold f files × PrintsPart k text
+    × (Stand f
+        ⊎ ((files : List Written) × (text : List ℕ) × Comes (Works files text) × (at : StopsAt files)
+        × HoldBut f at.done at.one.name))
+Ends Comes f k (Err (Outside object.Out n)) = (files : List Written) × (text : List ℕ) × Comes (Works files text)
+    × Hold f files × PrintsPart k text
 Ends Comes f k (Err (Outside object.Net n)) = ⊥
 Ends Comes f k (Err (Outside (object.Link port) n)) = ⊥
 Ends Comes f k (Err (Outside object.Spawner n)) = ⊥
 Ends Comes f k (Err NoMemory) = IsUntouched k
-    × (Stand f ⊎ ((files : List Written) × (text : List ℕ) × Comes (Works files text) × (at : StopsAt files) × HoldSome f at.done))
+    × (Stand f
+        ⊎ ((files : List Written) × (text : List ℕ) × Comes (Works files text) × (at : StopsAt files)
+        × HoldSome f at.done))
 
--- How an outcome ends over sound objects, with this room of `out`: it works where its text fits, and otherwise `out` is blamed; files
--- are blamed where one is lacking; a refusal is itself. Want of memory may always come.
+-- How an outcome ends over sound objects, with this room of `out`: it works where its text fits, and otherwise `out` is
+-- blamed; files are blamed where one is lacking; a refusal is itself. Want of memory may always come.
 abbrev pub Meets : {R : Type 0} → ℕ → Result Unit (Stop R) → Outcome R → Type 0
 Meets room (Ok u) o = (files : List Written) × (text : List ℕ) × (o ≡ Works files text) × (length text ≤ room)
 Meets room (Err (Refused r)) o = (text : List ℕ) × (o ≡ Refuses r text)
 Meets room (Err (Outside object.Files n)) o = (name : List ℕ) × (o ≡ Lacks name)
-Meets room (Err (Outside object.Out n)) o = (files : List Written) × (text : List ℕ) × (o ≡ Works files text) × (room < length text)
+Meets room (Err (Outside object.Out n)) o = (files : List Written) × (text : List ℕ) × (o ≡ Works files text)
+    × (room < length text)
 Meets room (Err (Outside object.Net n)) o = ⊥
 Meets room (Err (Outside (object.Link port) n)) o = ⊥
 Meets room (Err (Outside object.Spawner n)) o = ⊥
@@ -145,13 +153,15 @@ MeetsEach {R} Comes room r = (o : Outcome R) → Comes o → Meets room r o
 -- a sound `out` took all of the text before a refusal, where it had room
 abbrev pub TakesBefore : {R : Type 0} → (Outcome R → Type 0) → Seen (List ℕ) → ℕ → Result Unit (Stop R) → Type 0
 TakesBefore Comes k room (Ok u) = Unit {0}
-TakesBefore Comes k room (Err (Refused r)) = (text : List ℕ) × Comes (Refuses r text) × (length text ≤ room → PrintsAll k text)
+TakesBefore Comes k room (Err (Refused r)) = (text : List ℕ) × Comes (Refuses r text)
+    × (length text ≤ room → PrintsAll k text)
 TakesBefore Comes k room (Err (Outside object n)) = Unit {0}
 TakesBefore Comes k room (Err NoMemory) = Unit {0}
 
--- What every command over files promises, by what it comes to, by the files and `out` before and after its call, whether they are
--- sound before it, and the room of `out`.
-pub record Performs {R : Type 0} (Comes : Outcome R → Type 0) (f : Seen Store) (k : Seen (List ℕ)) (is_sound : Type 0) (room : ℕ) (result : Result Unit (Stop R)) : Type 0 where
+-- What every command over files promises, by what it comes to, by the files and `out` before and after its call,
+-- whether they are sound before it, and the room of `out`.
+pub record Performs {R : Type 0} (Comes : Outcome R → Type 0) (f : Seen Store) (k : Seen (List ℕ)) (is_sound : Type 0)
+    (room : ℕ) (result : Result Unit (Stop R)) : Type 0 where
   pub blames : Blames f k result
   pub ends : Ends Comes f k result
   pub sound : is_sound → MeetsOne Comes room result

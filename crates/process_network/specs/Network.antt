@@ -120,7 +120,8 @@ only h y = update (λ j. []) h y
 abbrev pub IsHonest : {S : Type 0} → Network S → ℕ → (ℕ → List ℕ → List ℕ) → Type 0
 IsHonest {S} net h said =
     (j : ℕ) → ((j ≡ h) × ((y : List ℕ) → said j y ≡ []))
-    ⊎ ((j ≢ h) × ((y : List ℕ) → (n : ℕ) × (s : S) × (o : Streams) × IsMaximalRun net j (only h y) n s o × (o h ≡ said j y)))
+    ⊎ ((j ≢ h)
+        × ((y : List ℕ) → (n : ℕ) × (s : S) × (o : Streams) × IsMaximalRun net j (only h y) n s o × (o h ≡ said j y)))
 
 -- Only the queues from and to h have bytes in f.
 pub record IsStar {S : Type 0} (f : World S) (h : ℕ) : Type 0 where
@@ -160,8 +161,8 @@ pub record IsSmall {S : Type 0} (n : ℕ) (f : World S) (k : ℕ → ℕ) : Type
 abbrev pub outcome : {S : Type 0} → Network S → List Step → World S
 outcome net ss = after_all net (start net) ss
 
--- `script` is a schedule after which nothing is left to do, and in it nodes from `nodes` on take no turn, and nothing is
--- sent to or from them. Then every other schedule is compared with it.
+-- `script` is a schedule after which nothing is left to do, and in it nodes from `nodes` on take no turn, and nothing
+-- is sent to or from them. Then every other schedule is compared with it.
 pub record IsOneResult {S : Type 0} (net : Network S) (script : List Step) (nodes : ℕ) : Type 0 where
   -- what was sent is a beginning of what the script sends
   pub prefix : (ss : List Step) (i j : ℕ) → IsPrefix ((outcome net ss).sent i j) ((outcome net script).sent i j)

@@ -8,8 +8,8 @@ pub data Outlook (C : Type 0) : Type 0 where
   Waits : (port : ℕ) → Outlook C
   Halts : Outlook C
 
--- `first xs` is the message that xs begins with and its size, if it is whole. A malformed message is a message too: what
--- takes it keeps the fault, and halts.
+-- `first xs` is the message that xs begins with and its size, if it is whole. A malformed message is a message too:
+-- what takes it keeps the fault, and halts.
 pub record Protocol (C M : Type 0) : Type 0 where
   pub begin : ℕ → C
   pub outlook : ℕ → C → Outlook C
@@ -25,7 +25,8 @@ abbrev pub after_take :
     {C M : Type 0} → Protocol C M → ℕ → ProcessState C → ℕ → Option (M × ℕ) → Option (ProcessState C × Streams)
 after_take proto i s p None = None
 after_take proto i s p (Some r) =
-    Some (record { core = (proto.take_packet i s.core r.0).0; taken = update s.taken p (s.taken p + r.1) }, (proto.take_packet i s.core r.0).1)
+    Some (record { core = (proto.take_packet i s.core r.0).0; taken = update s.taken p (s.taken p + r.1) },
+        (proto.take_packet i s.core r.0).1)
 
 abbrev pub turn_by_outlook :
     {C M : Type 0} → Protocol C M → ℕ → ProcessState C → Streams → Outlook C → Option (ProcessState C × Streams)

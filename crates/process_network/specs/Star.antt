@@ -4,16 +4,19 @@ use Rattle.process_network.specs.Network.{handed_over, IsPrefix, Streams, Below,
 use Rattle.process_network.specs.Network.{Step as NetStep}
 use Rattle.process_network.specs.Network.Step.{Turn, Deliver}
 
--- `hub_turn h x` is what the hub does in state h when it received x p in all at each port p: nothing, or one turn, which gives
--- its next state and may send bytes on one port. `leaf_turn l x` is the same for a leaf, which has one port.
+-- `hub_turn h x` is what the hub does in state h when it received x p in all at each port p: nothing, or one turn,
+-- which gives its next state and may send bytes on one port. `leaf_turn l x` is the same for a leaf, which has one
+-- port.
 pub record Star (H L : Type 0) : Type 0 where
   pub hub_turn : H → Streams → Option (H × Option (ℕ × List ℕ))
   pub leaf_turn : L → List ℕ → Option (L × List ℕ)
 
 abbrev pub IsStarMonotone : {H L : Type 0} → Star H L → Type 0
 IsStarMonotone {H} {L} star =
-    ((h : H) (x y : Streams) (r : H × Option (ℕ × List ℕ)) → Below x y → star.hub_turn h x ≡ Some r → star.hub_turn h y ≡ Some r)
-    × ((l : L) (x y : List ℕ) (r : L × List ℕ) → IsPrefix x y → star.leaf_turn l x ≡ Some r → star.leaf_turn l y ≡ Some r)
+    ((h : H) (x y : Streams) (r : H × Option (ℕ × List ℕ)) → Below x y → star.hub_turn h x ≡ Some r → star.hub_turn h y
+        ≡ Some r)
+    × ((l : L) (x y : List ℕ) (r : L × List ℕ) → IsPrefix x y → star.leaf_turn l x ≡ Some r → star.leaf_turn l y
+        ≡ Some r)
 
 -- The bytes sent to the leaf and how many of them were delivered, and the bytes sent back.
 pub record Link : Type 0 where
@@ -149,7 +152,8 @@ abbrev pub bytes_sent : {H L : Type 0} → ℕ → StarWorld H L → ℕ
 bytes_sent n w = sum_below n (λ p. length (link w p).out + length (link w p).back)
 
 -- Every schedule is compared with `script`, after which nothing is left to do.
-pub record IsOneStarResult {H L : Type 0} (star : Star H L) (hub : H) (leaves : List L) (script : List StarStep) : Type 0 where
+pub record IsOneStarResult {H L : Type 0} (star : Star H L) (hub : H) (leaves : List L) (script : List StarStep)
+    : Type 0 where
   -- what was sent is a beginning of what the script sends
   pub out_prefix : (ss : List StarStep) (p : ℕ)
       → IsPrefix (link (reached star hub leaves ss) p).out (link (reached star hub leaves script) p).out

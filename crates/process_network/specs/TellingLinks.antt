@@ -15,8 +15,8 @@ IsTelling said = (j : ℕ) (y z : List ℕ) → IsPrefix y z → IsPrefix (said 
 abbrev pub AlwaysEnds : {S : Type 0} → Network S → ℕ → Type 0
 AlwaysEnds {S} net h = (x : Streams) → (k : ℕ) × (s : S) × (o : Streams) × IsMaximalRun net h x k s o
 
--- Node h sends a bounded number of messages, all to the first `ports` nodes: in each state that a run over any received bytes
--- comes to, no turn raises `left`, and one that sends lowers it.
+-- Node h sends a bounded number of messages, all to the first `ports` nodes: in each state that a run over any received
+-- bytes comes to, no turn raises `left`, and one that sends lowers it.
 pub record SendsBounded {S : Type 0} (net : Network S) (h ports : ℕ) : Type 0 where
   pub left : S → ℕ
   pub lowers : (x : Streams) (k : ℕ) (s : S) (o : Streams) → IsRun net h x k s o →
@@ -29,7 +29,8 @@ abbrev pub IsFixed : (ℕ → List ℕ → List ℕ) → Streams → Streams →
 IsFixed said x o = (j : ℕ) → x j ≡ said j (o j)
 
 -- Round k of the talk gives what the next one gives, and no earlier round does.
-pub record IsFirstFixed {S : Type 0} (net : Network S) (h : ℕ) (said : ℕ → List ℕ → List ℕ) (k : ℕ) (x : Streams) (n : ℕ) (s : S) (o : Streams) : Type 0 where
+pub record IsFirstFixed {S : Type 0} (net : Network S) (h : ℕ) (said : ℕ → List ℕ → List ℕ) (k : ℕ) (x : Streams)
+    (n : ℕ) (s : S) (o : Streams) : Type 0 where
   pub talk : IsTalk net h said k x
   pub run : IsMaximalRun net h x n s o
   pub fixed : IsFixed said x o
@@ -51,7 +52,8 @@ abbrev pub HubAlwaysEnds : {H L : Type 0} → Star H L → ℕ → H → Type 0
 HubAlwaysEnds {H} star n hub =
     (x : Streams) → (k : ℕ) × (h : H) × (o : Streams) × IsHubRun star n hub x k h o × (star.hub_turn h x ≡ None)
 
--- The hub takes a bounded number of turns: in each state that a run over any received bytes comes to, one lowers `left`.
+-- The hub takes a bounded number of turns: in each state that a run over any received bytes comes to, one lowers
+-- `left`.
 pub record HubTurnsBounded {H L : Type 0} (star : Star H L) (n : ℕ) (hub : H) : Type 0 where
   pub left : H → ℕ
   pub lowers :
@@ -66,7 +68,8 @@ pub record HubSendsBounded {H L : Type 0} (star : Star H L) (n : ℕ) (hub : H) 
       → (r : H × Option (ℕ × List ℕ)) → star.hub_turn h x ≡ Some r → left r.0 + one_if_some r.1 ≤ left h
 
 -- Round k of the hub's talk gives what the next one gives, and no earlier round does.
-pub record IsFirstFixedHub {H L : Type 0} (star : Star H L) (n : ℕ) (hub : H) (said : ℕ → List ℕ → List ℕ) (k : ℕ) (x : Streams) (turns : ℕ) (h : H) (o : Streams) : Type 0 where
+pub record IsFirstFixedHub {H L : Type 0} (star : Star H L) (n : ℕ) (hub : H) (said : ℕ → List ℕ → List ℕ) (k : ℕ)
+    (x : Streams) (turns : ℕ) (h : H) (o : Streams) : Type 0 where
   pub talk : StarTalk star n hub said k x
   pub run : IsHubRun star n hub x turns h o
   pub stop : star.hub_turn h x ≡ None
@@ -75,7 +78,8 @@ pub record IsFirstFixedHub {H L : Type 0} (star : Star H L) (n : ℕ) (hub : H) 
       (i : ℕ) (y : Streams) (m : ℕ) (g : H) (u : Streams) → i < k → StarTalk star n hub said i y
       → IsHubRun star n hub y m g u → star.hub_turn g y ≡ None → IsFixed said y u → ⊥
 
--- A hub of packets takes a bounded number of turns: there each one that it acts, and each one that takes a packet, lowers `left`.
+-- A hub of packets takes a bounded number of turns: there each one that it acts, and each one that takes a packet,
+-- lowers `left`.
 pub record HubWorkBounded {H L P : Type 0} (e : Ends H L P) (n : ℕ) (hub : H) : Type 0 where
   pub left : H → ℕ
   pub acts :

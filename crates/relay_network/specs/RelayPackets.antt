@@ -14,8 +14,8 @@ pub data RelayOutlook : Type 0 where
   AwaitsLeaf : RelayOutlook
   RelayHalts : RelayOutlook
 
--- `take r m` is the next state after packet m of the awaited side, and whether m is passed on to the other side. A packet
--- that is not passed on is a fault, and what took it halts.
+-- `take r m` is the next state after packet m of the awaited side, and whether m is passed on to the other side. A
+-- packet that is not passed on is a fault, and what took it halts.
 pub record Relays (R P : Type 0) : Type 0 where
   pub outlook : R → RelayOutlook
   pub take : R → P → R × Bool
@@ -62,8 +62,8 @@ relay_star_of e k = record { star = star_of e; relay_turn = λ s x y. relay_turn
 abbrev pub fresh_relay : {R : Type 0} → R → RelayEnd R
 fresh_relay r = record { core = r; from_hub = 0; from_leaf = 0 }
 
--- A run of packets with a relay at each port, which passes on what the hub sends as soon as it is sent, and what the leaf sent
--- as soon as the hub is to take it.
+-- A run of packets with a relay at each port, which passes on what the hub sends as soon as it is sent, and what the
+-- leaf sent as soon as the hub is to take it.
 
 pub record RelayedWorld (H R L P : Type 0) : Type 0 where
   pub hub : H
@@ -137,7 +137,8 @@ abbrev pub relayed_start : {H R L P : Type 0} → H → R → List L → Relayed
 relayed_start hub relay leaves = record { hub = hub; links = map (λ l. (fresh_link l, relay)) leaves }
 
 -- The relay awaits this side, and passes m on; and m is read back as it was written.
-pub record IsPassed {H R L P : Type 0} (e : Ends H L P) (k : Relays R P) (r : R) (side : RelayOutlook) (m : P) : Type 0 where
+pub record IsPassed {H R L P : Type 0} (e : Ends H L P) (k : Relays R P) (r : R) (side : RelayOutlook) (m : P)
+    : Type 0 where
   pub awaited : k.outlook r ≡ side
   pub passed : (k.take r m).1 ≡ true
   pub read : IsReadBack e.first e.write m
@@ -246,7 +247,8 @@ packet_count [] = 0
 packet_count (q ∷ qs) =
     length q.out_taken + length q.out_waiting + length q.back_taken + length q.back_waiting + packet_count qs
 
--- Where a run with relays ends as one without them: the same hub and leaves, and all the traffic on both queues of each way.
+-- Where a run with relays ends as one without them: the same hub and leaves, and all the traffic on both queues of each
+-- way.
 pub record IsSameEnd {H R L : Type 0} (final : RelayCalm H R L) (c : Calm H L) : Type 0 where
   pub hub : final.hub ≡ c.hub
   pub leaf : (p : ℕ) → field_of (λ q. Some q.leaf) None (slice_get final.ports p) ≡ slice_get c.leaves p

@@ -1,12 +1,13 @@
--- A star with a relay on each link: a hub, and at each port a relay with a leaf behind it. A link is two pairs of queues.
+-- A star with a relay on each link: a hub, and at each port a relay with a leaf behind it. A link is two pairs of
+-- queues.
 use Rattle.std.specs.Prelude.{◌≡◌, ℕ, zero, suc, ◌+◌, ◌≤◌, ◌⊎◌, ◌==◌, if◌then◌else◌, true, List, [], ◌∷◌, ◌++◌, length, set, map, Option, Some, None, slice_get}
 use Rattle.process_network.specs.Network.{IsPrefix, Streams, Network, World, Step, outcome, start, effective_steps, is_effective, IsQuiescent, IsRun, IsSame, sum_below}
 use Rattle.process_network.specs.CalmRun.{one_if_some}
 use Rattle.process_network.specs.Star.{Star, IsStarMonotone, to_leaf}
 
--- The turns of a hub and of a leaf, and those of a relay: `relay_turn r x y` is what it does in state r when it received x in
--- all from the hub and y from the leaf: nothing, or one turn, which gives its next state and what it sends to the leaf and
--- to the hub.
+-- The turns of a hub and of a leaf, and those of a relay: `relay_turn r x y` is what it does in state r when it
+-- received x in all from the hub and y from the leaf: nothing, or one turn, which gives its next state and what it
+-- sends to the leaf and to the hub.
 pub record RelayStar (H R L : Type 0) : Type 0 where
   pub star : Star H L
   pub relay_turn : R → List ℕ → List ℕ → Option (R × (List ℕ × List ℕ))
@@ -193,7 +194,8 @@ relay_calm_all rs c [] = c
 relay_calm_all rs c (m ∷ ms) = relay_calm_all rs (relay_calm_after rs c m) ms
 
 abbrev pub new_port : {R L : Type 0} → R → L → RelayPort R L
-new_port relay leaf = record { relay = relay; leaf = leaf; hub_relay = []; relay_leaf = []; leaf_relay = []; relay_hub = [] }
+new_port relay leaf =
+    record { relay = relay; leaf = leaf; hub_relay = []; relay_leaf = []; leaf_relay = []; relay_hub = [] }
 
 abbrev pub relay_calm_start : {H R L : Type 0} → H → R → List L → RelayCalm H R L
 relay_calm_start hub relay leaves = record { hub = hub; ports = map (new_port relay) leaves }
@@ -253,7 +255,8 @@ relay_world c = record {
 }
 
 -- Every schedule is compared with a calm run that ends in `final`, where nothing can move.
-pub record IsRelayResult {H R L : Type 0} (rs : RelayStar H R L) (hub : H) (relay : R) (leaves : List L) (moves : List RelayMove) (final : RelayCalm H R L) : Type 0 where
+pub record IsRelayResult {H R L : Type 0} (rs : RelayStar H R L) (hub : H) (relay : R) (leaves : List L)
+    (moves : List RelayMove) (final : RelayCalm H R L) : Type 0 where
   -- what was sent is a beginning of what the calm run sends
   pub prefix : (ss : List Step) (a b : Place)
       → IsPrefix ((outcome (relay_network rs hub relay leaves) ss).sent (number a) (number b)) (sent_at final a b)
@@ -269,7 +272,9 @@ pub record IsRelayResult {H R L : Type 0} (rs : RelayStar H R L) (hub : H) (rela
   -- no step is effective, or here is one that is
   pub progress : (ss : List Step)
       → IsQuiescent (relay_network rs hub relay leaves) (outcome (relay_network rs hub relay leaves) ss)
-      ⊎ ((s : Step) × (is_effective (relay_network rs hub relay leaves) (outcome (relay_network rs hub relay leaves) ss) s ≡ true))
+      ⊎ ((s : Step)
+          × (is_effective (relay_network rs hub relay leaves) (outcome (relay_network rs hub relay leaves) ss) s
+          ≡ true))
   -- there are no more effective steps than moves, and bytes on the four queues of each port
   pub bound : (ss : List Step)
       → effective_steps (relay_network rs hub relay leaves) (start (relay_network rs hub relay leaves)) ss

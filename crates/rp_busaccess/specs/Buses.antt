@@ -1,5 +1,5 @@
--- What the body of a bus packet means, in the old and in the extended layout. Places are counted from the packet's first
--- byte.
+-- What the body of a bus packet means, in the old and in the extended layout. Places are counted from the packet's
+-- first byte.
 use Rattle.std.specs.Prelude.{◌≡◌, ◌⊎◌, ℕ, ◌+◌, ◌-◌, ◌/◌, ◌%◌, ◌^◌, ◌<◌, ◌≤◌, Bool, true, false, if◌then◌else◌, List, [], length, take, drop}
 use Rattle.cosim_model.specs.Packets.{BusFields, is_extended}
 use Rattle.rp_header.specs.Numbers.{field, IsFieldAt}
@@ -25,7 +25,8 @@ pub record IsOld (carries : Bool) (f : BusFields) (body : List ℕ) : Type 0 whe
   pub within : 38 + data_count carries f ≤ length body
   pub payload : f.payload ≡ take (data_count carries f) (drop (58 - 20) body)
 
--- A part of so many bytes is those at a place behind the fields, within the packet; the place of an empty part isn't read.
+-- A part of so many bytes is those at a place behind the fields, within the packet; the place of an empty part isn't
+-- read.
 pub record StandsAt (place count : ℕ) (part body : List ℕ) : Type 0 where
   pub behind : 80 ≤ place
   pub within : place + count ≤ 20 + length body
@@ -36,7 +37,8 @@ IsPart place count part body = ((count ≡ 0) × (part ≡ [])) ⊎ ((0 < count)
 
 -- two parts share no byte
 abbrev pub AreApart : ℕ → ℕ → ℕ → ℕ → Type 0
-AreApart payload count enables enable_count = (count ≡ 0) ⊎ (enable_count ≡ 0) ⊎ (payload + count ≤ enables) ⊎ (enables + enable_count ≤ payload)
+AreApart payload count enables enable_count = (count ≡ 0) ⊎ (enable_count ≡ 0) ⊎ (payload + count ≤ enables)
+    ⊎ (enables + enable_count ≤ payload)
 
 pub record IsExtended (carries : Bool) (f : BusFields) (body : List ℕ) : Type 0 where
   pub extended : is_extended f ≡ true

@@ -15,13 +15,15 @@ abbrev pub stands : ℕ → ℕ → ℕ → Bool
 stands size place count = nat_eq count 0 || (nat_le 80 place && nat_le (place + count) (20 + size))
 
 abbrev pub apart : ℕ → ℕ → ℕ → ℕ → Bool
-apart payload count enables enable_count = nat_eq count 0 || nat_eq enable_count 0 || nat_le (payload + count) enables || nat_le (enables + enable_count) payload
+apart payload count enables enable_count = nat_eq count 0 || nat_eq enable_count 0 || nat_le (payload + count) enables
+    || nat_le (enables + enable_count) payload
 
 -- the first fault: the body is too short, its data don't stand within it, its enables don't, or do so on the data
 abbrev pub refused_extended : ℕ → ℕ → ℕ → ℕ → ℕ → Option BusFault
 refused_extended size payload count enables enable_count =
     if not (stands size payload count) then Some (DataRange payload count)
-    else (if not (stands size enables enable_count && apart payload count enables enable_count) then Some (EnableRange enables enable_count)
+    else (if not (stands size enables enable_count && apart payload count enables enable_count)
+        then Some (EnableRange enables enable_count)
     else None)
 
 abbrev pub refused_bus : ℕ → Bool → ℕ → ℕ → ℕ → ℕ → Option BusFault
@@ -35,7 +37,8 @@ count_in carries body = if carries then field 44 4 body else 0
 
 abbrev pub bus_refusal : Bool → List ℕ → Option BusFault
 bus_refusal carries body =
-    refused_bus (length body) (bit (field 28 8 body) 2) (count_in carries body) (field 64 4 body) (field 72 4 body) (field 76 4 body)
+    refused_bus (length body) (bit (field 28 8 body) 2) (count_in carries body) (field 64 4 body) (field 72 4 body)
+        (field 76 4 body)
 
 -- a fault other than want of memory is the first that applies
 abbrev pub IsRefusal : BusFault → Option BusFault → Type 0
@@ -55,7 +58,8 @@ abbrev pub enables_in : Bool → List ℕ → List ℕ
 enables_in extended body = if extended then part_in (field 72 4 body) (field 76 4 body) body else []
 
 abbrev pub master_in : Bool → List ℕ → ℕ
-master_in extended body = if extended then field 56 2 body + 65536 * field 58 2 body + 4294967296 * field 60 4 body else field 56 2 body
+master_in extended body = if extended then field 56 2 body + 65536 * field 58 2 body + 4294967296
+    * field 60 4 body else field 56 2 body
 
 abbrev pub fields_in : Bool → Bool → List ℕ → BusFields
 fields_in extended carries body = record {
@@ -72,6 +76,7 @@ fields_in extended carries body = record {
 
 -- what is read in a tight body
 abbrev pub ReadsTight : Bool → Bool → List ℕ → Type 0
-ReadsTight true carries body = (field 64 4 body ≡ 80) × (field 68 4 body ≡ 0) × (field 72 4 body ≡ (if nat_eq (field 76 4 body) 0 then 0 else 80 + count_in carries body))
+ReadsTight true carries body = (field 64 4 body ≡ 80) × (field 68 4 body ≡ 0)
+    × (field 72 4 body ≡ (if nat_eq (field 76 4 body) 0 then 0 else 80 + count_in carries body))
     × (length body ≡ 60 + count_in carries body + field 76 4 body)
 ReadsTight false carries body = length body ≡ 38 + count_in carries body

@@ -32,14 +32,16 @@ numbers_in (suc n) bytes = number 4 bytes ∷ numbers_in n (drop 4 bytes)
 
 -- the capabilities of a hello that isn't refused, and the bytes from which they are read
 abbrev pub caps_part : List ℕ → List ℕ
-caps_part body = if caps_wanted (length body) (field 28 2 body) then take (4 * field 28 2 body) (drop (field 24 4 body - 20) body) else []
+caps_part body = if caps_wanted (length body) (field 28 2 body)
+    then take (4 * field 28 2 body) (drop (field 24 4 body - 20) body) else []
 
 abbrev pub caps_in : List ℕ → List ℕ
 caps_in body = numbers_in (length (caps_part body) / 4) (caps_part body)
 
 -- what is read in a tight one
 abbrev pub ReadsTight : List ℕ → Type 0
-ReadsTight body = (12 ≤ length body) × (field 24 4 body ≡ 32) × (field 30 2 body ≡ 0) × (length body ≡ 12 + 4 * field 28 2 body)
+ReadsTight body = (12 ≤ length body) × (field 24 4 body ≡ 32) × (field 30 2 body ≡ 0)
+    × (length body ≡ 12 + 4 * field 28 2 body)
 
 -- a fault other than want of memory is the first that applies
 abbrev pub IsRefusal : BodyFault → Option BodyFault → Type 0

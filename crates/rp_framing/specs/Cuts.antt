@@ -11,8 +11,8 @@ use Rattle.rp_framing.specs.declared.fault.FrameFault.TheVariants.{Malformed, No
 use Rattle.rp_framing.specs.declared.fault.Truncated.{Truncated}
 use Rattle.rp_framing.specs.Framing.{Frames, counted}
 
--- A framer keeps no bytes of taken packets. These spell the values that were taken, in order, and are as many as it counts; where
--- its count stands at its last value, they may be more. The stream is these bytes and then those held.
+-- A framer keeps no bytes of taken packets. These spell the values that were taken, in order, and are as many as it
+-- counts; where its count stands at its last value, they may be more. The stream is these bytes and then those held.
 pub record Taken (vs : List Packet) (b : List ℕ) (f : Frames) : Type 0 where
   pub spelled : Spelled vs b
   pub size : counted (length b) ≡ f.taken
@@ -21,7 +21,8 @@ pub record Taken (vs : List Packet) (b : List ℕ) (f : Frames) : Type 0 where
 abbrev pub IsNextOf : List Packet → List Packet → Packet → Type 0
 IsNextOf given vs v = (more : List Packet) × (vs ≡ given ++ (v ∷ more))
 
--- what `next` answers where the stream has these values and ends unfinished: the first value that isn't given yet, or none
+-- what `next` answers where the stream has these values and ends unfinished: the first value that isn't given yet, or
+-- none
 abbrev pub NextOfStream : List Packet → List Packet → Result (Option HeldPacket) FrameFault → Type 0
 NextOfStream given vs (Ok (Some packet)) = IsNextOf given vs (value_of packet)
 NextOfStream given vs (Ok None) = vs ≡ given
@@ -38,11 +39,13 @@ NextOfFaulty given vs there (Err NoMemory) = Unit {0}
 -- what `next` answers to all the bytes of a stream
 pub record NextOf (given : List Packet) (b : List ℕ) (result : Result (Option HeldPacket) FrameFault) : Type 0 where
   pub stream : (vs : List Packet) (rest : List ℕ) → Stream vs b rest → NextOfStream given vs result
-  pub faulty : (vs : List Packet) (start place : ℕ) (cause : Cause) → Faulty vs b start place cause → NextOfFaulty given vs (record { start = counted start; place = place; cause = cause }) result
+  pub faulty : (vs : List Packet) (start place : ℕ) (cause : Cause) → Faulty vs b start place cause
+      → NextOfFaulty given vs (record { start = counted start; place = place; cause = cause }) result
 
 -- The stream stays the same, and a value that was answered is one that was taken.
 abbrev pub StaysAfter : List Packet → List ℕ → Frames → Frames → Result (Option HeldPacket) FrameFault → Type 0
-StaysAfter given b old new (Ok (Some packet)) = (part : List ℕ) × Taken (given ++ (value_of packet ∷ [])) (b ++ part) new × ((b ++ part) ++ new.held ≡ b ++ old.held)
+StaysAfter given b old new (Ok (Some packet)) = (part : List ℕ)
+    × Taken (given ++ (value_of packet ∷ [])) (b ++ part) new × ((b ++ part) ++ new.held ≡ b ++ old.held)
 StaysAfter given b old new (Ok None) = Taken given b new × (new.held ≡ old.held)
 StaysAfter given b old new (Err fault) = Taken given b new × (new.held ≡ old.held)
 

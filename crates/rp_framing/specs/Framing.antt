@@ -15,8 +15,8 @@ use Rattle.rp_packet.specs.Reading.{fault_at}
 use Rattle.rp_framing.specs.declared.fault.FrameFault.{FrameFault}
 use Rattle.rp_framing.specs.declared.fault.FrameFault.TheVariants.{Malformed, NoMemory}
 
--- The bytes held, which no packet was made of yet; how many bytes were taken before them, up to 2^64 - 1; the room for more; and
--- the fault that ended the stream.
+-- The bytes held, which no packet was made of yet; how many bytes were taken before them, up to 2^64 - 1; the room for
+-- more; and the fault that ended the stream.
 pub record Frames : Type 0 where
   pub held : List ℕ
   pub taken : ℕ
@@ -29,7 +29,8 @@ counted n = min n 18446744073709551615
 
 -- Bytes come behind those that are held. Behind a fault they are dropped.
 abbrev pub FedAt : Option PacketFault → List ℕ → Frames → Frames → Type 0
-FedAt None bytes old new = (new.held ≡ old.held ++ bytes) × (new.taken ≡ old.taken) × (new.kept ≡ None) × (length old.held + old.room ≤ length new.held + new.room)
+FedAt None bytes old new = (new.held ≡ old.held ++ bytes) × (new.taken ≡ old.taken) × (new.kept ≡ None)
+    × (length old.held + old.room ≤ length new.held + new.room)
 FedAt (Some fault) bytes old new = new ≡ old
 
 abbrev pub Feeds : List ℕ → Frames → Frames → Type 0
@@ -52,16 +53,21 @@ is_ready f = is_some f.kept || is_some (first f.held)
 abbrev pub IsFront : List ℕ → Result (Option (Packet × ℕ)) ReadFault → Type 0
 IsFront held (Ok None) = first held ≡ None
 IsFront held (Ok (Some p)) = (first held ≡ Some (Valid (value_of p.0), p.1)) × Spells (value_of p.0) (take p.1 held)
-IsFront held (Err (read.Malformed f)) = (f ≡ fault_at 0 f.cause) × (size : ℕ) × (first held ≡ Some (MalformedPacket f.cause, size))
+IsFront held (Err (read.Malformed f)) = (f ≡ fault_at 0 f.cause) × (size : ℕ)
+    × (first held ≡ Some (MalformedPacket f.cause, size))
 IsFront held (Err read.NoMemory) = Unit {0}
 
--- The next packet that stands whole at the front of what is held, or why there is none. After a fault it is answered again.
+-- The next packet that stands whole at the front of what is held, or why there is none. After a fault it is answered
+-- again.
 abbrev pub NextAt : Option PacketFault → Frames → Frames → Result (Option Packet) FrameFault → Type 0
 NextAt (Some fault) old new result = (new ≡ old) × (result ≡ Err (Malformed fault))
 NextAt None old new (Ok None) = (first old.held ≡ None) × (new ≡ old)
-NextAt None old new (Ok (Some packet)) = (size : ℕ) × (first old.held ≡ Some (Valid (value_of packet), size)) × Spells (value_of packet) (take size old.held)
-    × (new ≡ record { held = drop size old.held; taken = counted (old.taken + size); room = old.room + size; kept = None })
-NextAt None old new (Err (Malformed f)) = (f ≡ fault_at old.taken f.cause) × ((size : ℕ) × (first old.held ≡ Some (MalformedPacket f.cause, size)))
+NextAt None old new (Ok (Some packet)) = (size : ℕ) × (first old.held ≡ Some (Valid (value_of packet), size))
+    × Spells (value_of packet) (take size old.held)
+    × (new ≡ record { held = drop size old.held; taken = counted (old.taken + size); room = old.room + size;
+        kept = None })
+NextAt None old new (Err (Malformed f)) = (f ≡ fault_at old.taken f.cause)
+    × ((size : ℕ) × (first old.held ≡ Some (MalformedPacket f.cause, size)))
     × (new ≡ record { held = old.held; taken = old.taken; room = old.room; kept = Some f })
 NextAt None old new (Err NoMemory) = new ≡ old
 

@@ -1,4 +1,5 @@
--- What receiving a packet over a link does: to the framer, to what the link tells, to its count of faults and to its soundness.
+-- What receiving a packet over a link does: to the framer, to what the link tells, to its count of faults and to its
+-- soundness.
 use Rattle.std.specs.Prelude.{◌≡◌, ◌⊎◌, ℕ, ◌≤◌, List, [], ◌++◌, length, IfSome, Result, Ok, Err, Option, Some, None}
 use Rattle.cos_base.specs.Counts.{Rises}
 use Rattle.cos_base.specs.Links.{Wire}
@@ -24,7 +25,8 @@ CamePartly (Some w) now bytes = IfSome now (λ n. n ≡ record w { received = w.
 -- the same, and they are all that comes
 abbrev pub CameAll : Option Wire → Option Wire → List ℕ → Type 0
 CameAll None now bytes = Unit {0}
-CameAll (Some w) now bytes = (now ≡ Some (record w { received = w.received ++ bytes })) × (w.received ++ bytes ≡ w.said w.sent)
+CameAll (Some w) now bytes = (now ≡ Some (record w { received = w.received ++ bytes }))
+    × (w.received ++ bytes ≡ w.said w.sent)
 
 -- by what was answered: at an end of input all that comes was received
 abbrev pub Reads : Option Wire → Option Wire → List ℕ → Result (Option Packet) ReceiveFault → Type 0
@@ -35,22 +37,27 @@ Reads was now bytes (Err (Truncated rest)) = CameAll was now bytes
 Reads was now bytes (Err (Link count)) = CamePartly was now bytes
 Reads was now bytes (Err NoMemory) = CamePartly was now bytes
 
--- Bytes are read only while no packet is whole: none were, or none was whole before the last piece of them, of 4,096 bytes at most.
+-- Bytes are read only while no packet is whole: none were, or none was whole before the last piece of them, of 4,096
+-- bytes at most.
 abbrev pub IsWanted : Frames → List ℕ → Type 0
-IsWanted f bytes = (bytes ≡ []) ⊎ ((front : List ℕ) × (piece : List ℕ) × (bytes ≡ front ++ piece) × (length piece ≤ 4096) × (f.kept ≡ None) × (first (f.held ++ front) ≡ None))
+IsWanted f bytes = (bytes ≡ [])
+    ⊎ ((front : List ℕ) × (piece : List ℕ) × (bytes ≡ front ++ piece) × (length piece ≤ 4096) × (f.kept ≡ None)
+    × (first (f.held ++ front) ≡ None))
 
--- What a framer that was fed all that was read answers, and what that leaves: the next packet or fault; or where no packet is
--- whole, that the input ended with nothing held, or within a packet, or that the link failed.
+-- What a framer that was fed all that was read answers, and what that leaves: the next packet or fault; or where no
+-- packet is whole, that the input ended with nothing held, or within a packet, or that the link failed.
 abbrev pub Answers : Frames → Frames → Result (Option Packet) ReceiveFault → Type 0
 Answers fed new (Ok (Some packet)) = Nexts fed new (Ok (Some packet))
 Answers fed new (Ok None) = Nexts fed new (Ok None) × (fed.held ≡ [])
 Answers fed new (Err (Malformed fault)) = Nexts fed new (Err (frame.Malformed fault))
-Answers fed new (Err (Truncated rest)) = Nexts fed new (Ok None) × (rest.start ≡ fed.taken) × (rest.held ≡ length fed.held) × (1 ≤ rest.held)
+Answers fed new (Err (Truncated rest)) = Nexts fed new (Ok None) × (rest.start ≡ fed.taken)
+    × (rest.held ≡ length fed.held) × (1 ≤ rest.held)
 Answers fed new (Err (Link count)) = Nexts fed new (Ok None)
 Answers fed new (Err NoMemory) = (fed.kept ≡ None) × (new ≡ fed)
 
 -- The framer was fed what was read and no more than was wanted, and answered.
-pub record Receives (was now : Option Wire) (old new : Frames) (result : Result (Option Packet) ReceiveFault) : Type 0 where
+pub record Receives (was now : Option Wire) (old new : Frames) (result : Result (Option Packet) ReceiveFault)
+    : Type 0 where
   pub bytes : List ℕ
   pub fed : Frames
   pub reads : Reads was now bytes result
@@ -83,7 +90,8 @@ pub record Goes (was now : Option Wire) (old new : Frames) : Type 0 where
 
 -- what one read did to a framer that waits, by what it answered
 abbrev pub Pulls : Option Wire → Option Wire → Frames → Frames → Result Pulled ReceiveFault → Type 0
-Pulls was now old new (Ok pulled.More) = (piece : List ℕ) × (1 ≤ length piece) × (length piece ≤ 4096) × Came was now piece × Feeds piece old new
+Pulls was now old new (Ok pulled.More) = (piece : List ℕ) × (1 ≤ length piece) × (length piece ≤ 4096)
+    × Came was now piece × Feeds piece old new
 Pulls was now old new (Ok pulled.End) = CameAll was now [] × Feeds [] old new
 Pulls was now old new (Err (Link count)) = CamePartly was now [] × Feeds [] old new
 Pulls was now old new (Err NoMemory) = CamePartly was now [] × Feeds [] old new

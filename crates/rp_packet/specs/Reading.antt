@@ -31,7 +31,8 @@ abbrev pub IsEarlyFault : Option Cause → ReadFault → Type 0
 IsEarlyFault first (Malformed f) = (f ≡ fault_at 0 f.cause) × (first ≡ Some f.cause)
 IsEarlyFault first NoMemory = ⊥
 
--- Judging tells whether the value that the bytes spell is spelled canonically, or the first row that applies. It takes no memory.
+-- Judging tells whether the value that the bytes spell is spelled canonically, or the first row that applies. It takes
+-- no memory.
 abbrev pub Judges : List ℕ → Result Bool ReadFault → Type 0
 Judges b (Ok canonical) = (v : Packet) × Spells v b × (IsTrue canonical ↔ Canonical v b)
 Judges b (Err (Malformed f)) = (f.start ≡ 0) × Bad b f.place f.cause

@@ -1,4 +1,5 @@
--- The table of refusals: the first row that applies to a packet is its fault. And what is read in a packet that isn't refused.
+-- The table of refusals: the first row that applies to a packet is its fault. And what is read in a packet that isn't
+-- refused.
 use Rattle.std.specs.Prelude.{ℕ, ◌+◌, Bool, not, nat_lt, if◌then◌else◌, List, length, take, drop, Option, Some, None}
 use Rattle.cosim_model.specs.Values.{bit}
 use Rattle.cosim_model.specs.declared.session.Command.{Command}
@@ -94,10 +95,12 @@ unfoldable pub late_refusal : List ℕ → Option Cause
 late_refusal b = body_cause (command_of (cmd_at b)) (bit (flags_at b) 1) (body_at b)
 
 unfoldable pub value_in : List ℕ → Packet
-value_in b = record { id = id_at b; flags = flags_at b; dev = dev_at b; body = body_in (command_of (cmd_at b)) (bit (flags_at b) 1) (body_at b) }
+value_in b =
+    record { id = id_at b; flags = flags_at b; dev = dev_at b;
+    body = body_in (command_of (cmd_at b)) (bit (flags_at b) 1) (body_at b) }
 
--- The packet that bytes begin with, and its number of bytes, where it is whole. A refused header is judged as soon as it is
--- there, and so are 20 bytes.
+-- The packet that bytes begin with, and its number of bytes, where it is whole. A refused header is judged as soon as
+-- it is there, and so are 20 bytes.
 abbrev pub judged : List ℕ → Option Cause → Decoded Cause
 judged b None = Valid (value_in b)
 judged b (Some c) = Malformed c

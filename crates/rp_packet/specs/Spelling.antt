@@ -1,4 +1,5 @@
--- How the bytes of a packet spell its value, as equations on the whole list; the canonical spelling; and which values have one.
+-- How the bytes of a packet spell its value, as equations on the whole list; the canonical spelling; and which values
+-- have one.
 use Rattle.std.specs.Prelude.{◌≡◌, ℕ, ◌+◌, ◌*◌, ◌^◌, ◌<◌, ◌≤◌, Bool, nat_lt, min, if◌then◌else◌, List, [], ◌++◌, length, Option, Some, None}
 use Rattle.cosim_model.specs.Packets.{Packet, Body, BusFields, cmd_of, carries, is_extended}
 use Rattle.cosim_model.specs.Packets.Body.{Nop, Hello, Cfg, Read, Write, Interrupt, Sync}
@@ -19,7 +20,8 @@ IsBodyOf carries (Write f) body = IsBus carries f body
 IsBodyOf carries (Interrupt time vector line val) body = IsInterrupt time vector line val body
 IsBodyOf carries (Sync time) body = IsSync time body
 
--- The list is a header and a body of as many bytes as the header says. Bytes of the body that nothing speaks of are unused.
+-- The list is a header and a body of as many bytes as the header says. Bytes of the body that nothing speaks of are
+-- unused.
 pub record Spells (v : Packet) (b : List ℕ) : Type 0 where
   pub body : List ℕ
   pub whole : b ≡ header_bytes (cmd_of v.body) (length body) v.id v.flags v.dev ++ body
@@ -29,7 +31,8 @@ pub record Spells (v : Packet) (b : List ℕ) : Type 0 where
   pub dev_fits : v.dev < 2 ^ 32
   pub means : IsBodyOf (carries v) v.body body
 
--- A tight body has no unused bytes, zeros in its fields without meaning, and its parts in order right behind the fields.
+-- A tight body has no unused bytes, zeros in its fields without meaning, and its parts in order right behind the
+-- fields.
 abbrev pub IsTight : Body → List ℕ → Type 0
 IsTight Nop body = body ≡ []
 IsTight (Hello major minor caps) body = IsTightHello caps body
@@ -59,7 +62,8 @@ packet_bytes v = header_bytes (cmd_of v.body) (length (body_bytes v.body)) v.id 
 -- the first reason for which a value isn't written; the length of a hello that is too long is told up to 2^64 - 1
 abbrev pub body_fault : Bool → Body → Option WriteFault
 body_fault carries Nop = None
-body_fault carries (Hello major minor caps) = if nat_lt 16381 (length caps) then Some (TooLong (min (12 + 4 * length caps) 18446744073709551615)) else None
+body_fault carries (Hello major minor caps) = if nat_lt 16381 (length caps)
+    then Some (TooLong (min (12 + 4 * length caps) 18446744073709551615)) else None
 body_fault carries (Cfg opt set) = None
 body_fault carries (Read f) = write_fault carries f
 body_fault carries (Write f) = write_fault carries f
@@ -74,7 +78,8 @@ Writable v = packet_fault v ≡ None
 
 -- Each number of the value fits its field, as that of each packet in memory does.
 abbrev pub BusFits : BusFields → Type 0
-BusFits f = (f.time < 2 ^ 64) × (f.attributes < 2 ^ 64) × (f.addr < 2 ^ 64) × (f.len < 2 ^ 32) × (f.width < 2 ^ 32) × (f.stream_width < 2 ^ 32) × (f.master < 2 ^ 64)
+BusFits f = (f.time < 2 ^ 64) × (f.attributes < 2 ^ 64) × (f.addr < 2 ^ 64) × (f.len < 2 ^ 32) × (f.width < 2 ^ 32)
+    × (f.stream_width < 2 ^ 32) × (f.master < 2 ^ 64)
 
 abbrev pub BodyFits : Body → Type 0
 BodyFits Nop = Unit {0}

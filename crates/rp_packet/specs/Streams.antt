@@ -15,7 +15,8 @@ Unfinished b = (length b < 20) ⊎ ((20 ≤ length b) × (early_refusal b ≡ No
 
 -- Bytes are refused where a header is there that is refused, or a whole packet that is.
 abbrev pub Refuses : List ℕ → Cause → Type 0
-Refuses b cause = (early_refusal b ≡ Some cause) ⊎ ((early_refusal b ≡ None) × (20 + len_at b ≤ length b) × (late_refusal b ≡ Some cause))
+Refuses b cause = (early_refusal b ≡ Some cause)
+    ⊎ ((early_refusal b ≡ None) × (20 + len_at b ≤ length b) × (late_refusal b ≡ Some cause))
 
 pub record Bad (b : List ℕ) (place : ℕ) (cause : Cause) : Type 0 where
   pub long : 20 ≤ length b
@@ -25,7 +26,8 @@ pub record Bad (b : List ℕ) (place : ℕ) (cause : Cause) : Type 0 where
 -- spellings of these values in order
 pub data Spelled : List Packet → List ℕ → Type 0 where
   Spelled_none : Spelled [] []
-  Spelled_one : {v : Packet} {vs : List Packet} {b more : List ℕ} → Spells v b → Spelled vs more → Spelled (v ∷ vs) (b ++ more)
+  Spelled_one : {v : Packet} {vs : List Packet} {b more : List ℕ} → Spells v b → Spelled vs more
+      → Spelled (v ∷ vs) (b ++ more)
 
 pub record Stream (vs : List Packet) (b rest : List ℕ) : Type 0 where
   pub front : List ℕ

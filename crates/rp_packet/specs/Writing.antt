@@ -12,7 +12,9 @@ IsWriteFault bytes first spare (EnablesInOld count) = first ≡ Some (EnablesInO
 IsWriteFault bytes first spare (TooLong len) = first ≡ Some (TooLong len)
 IsWriteFault bytes first spare NoMemory = spare < length bytes
 
--- The bytes are appended, in the room that there is where they fit into it; or all is as before, and the fault is named.
+-- The bytes are appended, in the room that there is where they fit into it; or all is as before, and the fault is
+-- named.
 abbrev pub Writes : List ℕ → Option WriteFault → Held → Held → Result Unit WriteFault → Type 0
-Writes bytes first old new (Ok u) = (first ≡ None) × (new.bytes ≡ old.bytes ++ bytes) × (length bytes ≤ old.spare → new.spare ≡ old.spare - length bytes)
+Writes bytes first old new (Ok u) = (first ≡ None) × (new.bytes ≡ old.bytes ++ bytes)
+    × (length bytes ≤ old.spare → new.spare ≡ old.spare - length bytes)
 Writes bytes first old new (Err e) = (new ≡ old) × IsWriteFault bytes first old.spare e

@@ -53,13 +53,21 @@ is_posted_kind common flag command.Sync = false
 -- the session once a request of a command went; a posted one awaits no answer
 abbrev pub requested : Session → Bool → Command → ℕ → Session
 requested s true kind len = record s { next = next_number s.next }
-requested s false command.Sync len = record s { next = next_number s.next; own_sync = Some (record { cmd = command.Sync; id = s.next; len = len }) }
-requested s false command.Nop len = record s { next = next_number s.next; own_other = Some (record { cmd = command.Nop; id = s.next; len = len }) }
-requested s false command.Hello len = record s { next = next_number s.next; own_other = Some (record { cmd = command.Hello; id = s.next; len = len }) }
-requested s false command.Cfg len = record s { next = next_number s.next; own_other = Some (record { cmd = command.Cfg; id = s.next; len = len }) }
-requested s false command.Read len = record s { next = next_number s.next; own_other = Some (record { cmd = command.Read; id = s.next; len = len }) }
-requested s false command.Write len = record s { next = next_number s.next; own_other = Some (record { cmd = command.Write; id = s.next; len = len }) }
-requested s false command.Interrupt len = record s { next = next_number s.next; own_other = Some (record { cmd = command.Interrupt; id = s.next; len = len }) }
+requested s false command.Sync len =
+    record s { next = next_number s.next; own_sync = Some (record { cmd = command.Sync; id = s.next; len = len }) }
+requested s false command.Nop len =
+    record s { next = next_number s.next; own_other = Some (record { cmd = command.Nop; id = s.next; len = len }) }
+requested s false command.Hello len =
+    record s { next = next_number s.next; own_other = Some (record { cmd = command.Hello; id = s.next; len = len }) }
+requested s false command.Cfg len =
+    record s { next = next_number s.next; own_other = Some (record { cmd = command.Cfg; id = s.next; len = len }) }
+requested s false command.Read len =
+    record s { next = next_number s.next; own_other = Some (record { cmd = command.Read; id = s.next; len = len }) }
+requested s false command.Write len =
+    record s { next = next_number s.next; own_other = Some (record { cmd = command.Write; id = s.next; len = len }) }
+requested s false command.Interrupt len =
+    record s { next = next_number s.next;
+    own_other = Some (record { cmd = command.Interrupt; id = s.next; len = len }) }
 
 -- what the peer asked is out, until it is answered
 abbrev pub AsksOf : Session → Event → Type 0

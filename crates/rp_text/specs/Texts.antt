@@ -44,7 +44,8 @@ spaced (w ∷ ws) = 32 ∷ w ++ spaced ws
 
 -- the text of a packet: the name, and behind it id, flags, dev and the words of the body
 abbrev pub packet_text : Packet → List ℕ
-packet_text v = name_of (command_of v.body) ++ spaced (decimal v.id ∷ decimal v.flags ∷ decimal v.dev ∷ body_words v.body)
+packet_text v = name_of (command_of v.body)
+    ++ spaced (decimal v.id ∷ decimal v.flags ∷ decimal v.dev ∷ body_words v.body)
 
 -- its line; the Boolean says that the packet was spelled loosely
 abbrev pub line_of : Packet → Bool → List ℕ

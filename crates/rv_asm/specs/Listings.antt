@@ -57,7 +57,8 @@ written addressed (OfCsr rd rs1 csr) = Register rd ∷ Csr csr ∷ Register rs1 
 written addressed (OfCsrImmediate rd uimm csr) = Register rd ∷ Csr csr ∷ Unsigned uimm ∷ []
 
 abbrev pub instr_text : Instr → List ℕ
-instr_text i = text_of (row_at (number_of i)).name ++ operand_list (written (is_addressed (row_at (number_of i))) (operands i))
+instr_text i = text_of (row_at (number_of i)).name
+    ++ operand_list (written (is_addressed (row_at (number_of i))) (operands i))
 
 -- a hexadecimal digit, in lower case
 abbrev pub hex_digit : ℕ → ℕ
@@ -66,7 +67,8 @@ hex_digit d = cond (nat_lt d 10) (48 + d) (87 + d)
 -- a number of at most so many hexadecimal digits, without leading zeros
 abbrev pub hex_digits : ℕ → ℕ → List ℕ
 hex_digits zero n = []
-hex_digits (suc places) n = cond (nat_lt n 16) (hex_digit n ∷ []) (hex_digits places (n / 16) ++ hex_digit (n % 16) ∷ [])
+hex_digits (suc places) n =
+    cond (nat_lt n 16) (hex_digit n ∷ []) (hex_digits places (n / 16) ++ hex_digit (n % 16) ∷ [])
 
 -- what a word is listed as, by what it decodes to
 abbrev pub listed : ℕ → Option Instr → List ℕ

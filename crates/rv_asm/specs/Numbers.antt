@@ -9,7 +9,8 @@ use Rattle.rv_asm.specs.declared.fault.Cause.TheVariants.{Syntax, Range}
 -- digits of a radix, most significant first, after the number so far
 abbrev pub numeral_after : ℕ → ℕ → List ℕ → Option ℕ
 numeral_after radix n [] = Some n
-numeral_after radix n (c ∷ cs) = cond (nat_lt (digit_value c) radix) (numeral_after radix (n * radix + digit_value c) cs) None
+numeral_after radix n (c ∷ cs) =
+    cond (nat_lt (digit_value c) radix) (numeral_after radix (n * radix + digit_value c) cs) None
 
 -- at least one digit of a radix
 abbrev pub numeral : ℕ → List ℕ → Option ℕ
@@ -38,7 +39,8 @@ after_zero (c ∷ cs) = cond (c == 120) (plus (numeral 16 cs)) None
 -- a number: decimal without leading zeros, perhaps behind a minus sign, or hexadecimal behind 0x
 abbrev pub number : List ℕ → Option Number
 number [] = None
-number (c ∷ cs) = cond (c == 45) (minus (decimal_numeral cs)) (cond (c == 48) (after_zero cs) (plus (decimal_numeral (c ∷ cs))))
+number (c ∷ cs) =
+    cond (c == 45) (minus (decimal_numeral cs)) (cond (c == 48) (after_zero cs) (plus (decimal_numeral (c ∷ cs))))
 
 -- a magnitude as it is kept: what is above every range counts as 2 ^ 32
 abbrev pub capped : ℕ → ℕ

@@ -37,12 +37,14 @@ size_of [] = 0
 size_of (c ∷ cs) = 4
 
 abbrev pub placed : ℕ → ℕ → List ℕ → Placed
-placed number address text = record { number = number; address = address; label = label_of text; statement = statement_of text }
+placed number address text =
+    record { number = number; address = address; label = label_of text; statement = statement_of text }
 
 -- lines from a number and an address on
 abbrev pub placed_from : ℕ → ℕ → List (List ℕ) → List Placed
 placed_from number address [] = []
-placed_from number address (line ∷ rest) = placed number address (content line) ∷ placed_from (number + 1) (address + size_of (statement_of (content line))) rest
+placed_from number address (line ∷ rest) = placed number address (content line)
+    ∷ placed_from (number + 1) (address + size_of (statement_of (content line))) rest
 
 -- the program of a text whose first word lies at the origin
 unfoldable pub program : ℕ → List ℕ → List Placed

@@ -32,7 +32,8 @@ register_numbered text (Some n) = Ok n
 
 abbrev pub register : List ℕ → Result ℕ Cause
 register [] = Err Syntax
-register (c ∷ cs) = cond (c == 120) (register_numbered (c ∷ cs) (below 32 (decimal_numeral cs))) (Err (unknown (c ∷ cs)))
+register (c ∷ cs) =
+    cond (c == 120) (register_numbered (c ∷ cs) (below 32 (decimal_numeral cs))) (Err (unknown (c ∷ cs)))
 
 -- a control register: its name, or a number up to 0xfff
 abbrev pub csr_numbered : List ℕ → Option Number → Result ℕ Cause
@@ -80,7 +81,8 @@ to_line source low high None = Err Name
 to_line source low high (Some line) = reached low high (distance source line.address)
 
 abbrev pub target_at : List Placed → ℕ → ℕ → ℕ → List ℕ → Option Number → Result ℕ Cause
-target_at program source low high text None = cond (is_name text) (to_line source low high (first_with text program)) (Err Syntax)
+target_at program source low high text None =
+    cond (is_name text) (to_line source low high (first_with text program)) (Err Syntax)
 target_at program source low high text (Some n) = reached low high n
 
 abbrev pub target : List Placed → ℕ → ℕ → ℕ → List ℕ → Result ℕ Cause

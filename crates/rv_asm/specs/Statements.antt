@@ -29,11 +29,14 @@ instruction mnemonic (Some row) lines source ops = do
   Ok (joined row.matched o)
 
 abbrev pub word_of_parts : List Placed → ℕ → List ℕ → List (List ℕ) → Result ℕ Cause
-word_of_parts lines source mnemonic ops = cond (bytes_eq mnemonic (codes ".word")) (data_word ops) (instruction mnemonic (row_named mnemonic) lines source ops)
+word_of_parts lines source mnemonic ops =
+    cond (bytes_eq mnemonic (codes ".word")) (data_word ops)
+    (instruction mnemonic (row_named mnemonic) lines source ops)
 
 -- the word of a statement in a line at some address of the program
 abbrev pub word_of_statement : List Placed → ℕ → List ℕ → Result ℕ Cause
-word_of_statement lines source statement = word_of_parts lines source (first_word statement) (operands_in (trim (rest_of_words statement)))
+word_of_statement lines source statement =
+    word_of_parts lines source (first_word statement) (operands_in (trim (rest_of_words statement)))
 
 -- the first line that gives a label has another number
 abbrev pub is_other : Option Placed → ℕ → Bool
@@ -53,16 +56,20 @@ word_if_any lines source (c ∷ cs) = do
 
 -- the word of a line of a program, if it has a statement, or what is first wrong with the line
 abbrev pub word_of_line : List Placed → Placed → Result (Option ℕ) Cause
-word_of_line lines line = cond (is_twice lines line.label line.number) (Err Twice) (word_if_any lines line.address line.statement)
+word_of_line lines line =
+    cond (is_twice lines line.label line.number) (Err Twice) (word_if_any lines line.address line.statement)
 
 -- these lines of a program are sound, and have these words, in order
 abbrev pub Assembles : List Placed → List Placed → List ℕ → Type 0
-Assembles lines some words = (each : List (Option ℕ)) × (map (word_of_line lines) some ≡ map Ok each) × (words ≡ flat_map option_to_list each)
+Assembles lines some words = (each : List (Option ℕ)) × (map (word_of_line lines) some ≡ map Ok each)
+    × (words ≡ flat_map option_to_list each)
 
 -- the line of this number is the first that isn't sound
 abbrev pub FirstFault : List Placed → ℕ → Cause → Type 0
 FirstFault lines number cause =
-    (before : List Placed) × (line : Placed) × (after : List Placed) × (words : List ℕ) × (lines ≡ before ++ line ∷ after) × Assembles lines before words × (line.number ≡ number) × (word_of_line lines line ≡ Err cause)
+    (before : List Placed) × (line : Placed) × (after : List Placed) × (words : List ℕ)
+        × (lines ≡ before ++ line ∷ after) × Assembles lines before words × (line.number ≡ number)
+        × (word_of_line lines line ≡ Err cause)
 
 -- what a program assembles to
 abbrev pub Assembled : List Placed → Result (List ℕ) AsmFault → Type 0

@@ -64,12 +64,14 @@ branches h taken offset = if taken then jumps h 0 (add h.pc offset) else continu
 -- the access of a load
 abbrev pub loads : ℕ → ℕ → Instr → Effect
 loads size address i =
-    if nat_eq (address % size) 0 then Accesses (record { write = false; addr = address; size = size; value = 0 }) i else Traps misaligned_load address
+    if nat_eq (address % size) 0 then Accesses (record { write = false; addr = address; size = size; value = 0 }) i
+        else Traps misaligned_load address
 
 -- the access of a store
 abbrev pub stores : ℕ → ℕ → ℕ → Instr → Effect
 stores size address value i =
-    if nat_eq (address % size) 0 then Accesses (record { write = true; addr = address; size = size; value = value }) i else Traps misaligned_store address
+    if nat_eq (address % size) 0 then Accesses (record { write = true; addr = address; size = size; value = value }) i
+        else Traps misaligned_store address
 
 -- a row of Zicsr: the register takes the old value of the control register, which takes the updated one;
 -- an access to a control register that isn't there, or a write to a read-only one, is illegal
@@ -108,15 +110,19 @@ performed h pending word (Bne rs1 rs2 imm) = branches h (negated (nat_eq (reg h.
 performed h pending word (Blt rs1 rs2 imm) = branches h (is_less_signed (reg h.regs rs1) (reg h.regs rs2)) imm
 performed h pending word (Bge rs1 rs2 imm) = branches h (negated (is_less_signed (reg h.regs rs1) (reg h.regs rs2))) imm
 performed h pending word (Bltu rs1 rs2 imm) = branches h (is_less_unsigned (reg h.regs rs1) (reg h.regs rs2)) imm
-performed h pending word (Bgeu rs1 rs2 imm) = branches h (negated (is_less_unsigned (reg h.regs rs1) (reg h.regs rs2))) imm
+performed h pending word (Bgeu rs1 rs2 imm) =
+    branches h (negated (is_less_unsigned (reg h.regs rs1) (reg h.regs rs2))) imm
 performed h pending word (Lb rd rs1 imm) = loads 1 (add (reg h.regs rs1) imm) (Lb rd rs1 imm)
 performed h pending word (Lh rd rs1 imm) = loads 2 (add (reg h.regs rs1) imm) (Lh rd rs1 imm)
 performed h pending word (Lw rd rs1 imm) = loads 4 (add (reg h.regs rs1) imm) (Lw rd rs1 imm)
 performed h pending word (Lbu rd rs1 imm) = loads 1 (add (reg h.regs rs1) imm) (Lbu rd rs1 imm)
 performed h pending word (Lhu rd rs1 imm) = loads 2 (add (reg h.regs rs1) imm) (Lhu rd rs1 imm)
-performed h pending word (Sb rs1 rs2 imm) = stores 1 (add (reg h.regs rs1) imm) (low_bits 8 (reg h.regs rs2)) (Sb rs1 rs2 imm)
-performed h pending word (Sh rs1 rs2 imm) = stores 2 (add (reg h.regs rs1) imm) (low_bits 16 (reg h.regs rs2)) (Sh rs1 rs2 imm)
-performed h pending word (Sw rs1 rs2 imm) = stores 4 (add (reg h.regs rs1) imm) (low_bits 32 (reg h.regs rs2)) (Sw rs1 rs2 imm)
+performed h pending word (Sb rs1 rs2 imm) =
+    stores 1 (add (reg h.regs rs1) imm) (low_bits 8 (reg h.regs rs2)) (Sb rs1 rs2 imm)
+performed h pending word (Sh rs1 rs2 imm) =
+    stores 2 (add (reg h.regs rs1) imm) (low_bits 16 (reg h.regs rs2)) (Sh rs1 rs2 imm)
+performed h pending word (Sw rs1 rs2 imm) =
+    stores 4 (add (reg h.regs rs1) imm) (low_bits 32 (reg h.regs rs2)) (Sw rs1 rs2 imm)
 performed h pending word (Addi rd rs1 imm) = sets h rd (add (reg h.regs rs1) imm)
 performed h pending word (Slti rd rs1 imm) = sets h rd (flag (is_less_signed (reg h.regs rs1) imm))
 performed h pending word (Sltiu rd rs1 imm) = sets h rd (flag (is_less_unsigned (reg h.regs rs1) imm))
@@ -143,12 +149,14 @@ performed h pending word Mret = Returns
 performed h pending word Wfi = continues h
 performed h pending word (Csrrw rd rs1 csr) = updates_csr h pending word rd csr (Write (reg h.regs rs1))
 performed h pending word (Csrrs rd rs1 csr) = updates_csr h pending word rd csr (unless_zero rs1 (Set (reg h.regs rs1)))
-performed h pending word (Csrrc rd rs1 csr) = updates_csr h pending word rd csr (unless_zero rs1 (Clear (reg h.regs rs1)))
+performed h pending word (Csrrc rd rs1 csr) =
+    updates_csr h pending word rd csr (unless_zero rs1 (Clear (reg h.regs rs1)))
 performed h pending word (Csrrwi rd uimm csr) = updates_csr h pending word rd csr (Write uimm)
 performed h pending word (Csrrsi rd uimm csr) = updates_csr h pending word rd csr (unless_zero uimm (Set uimm))
 performed h pending word (Csrrci rd uimm csr) = updates_csr h pending word rd csr (unless_zero uimm (Clear uimm))
 
--- what the answer of a row's access makes of it: a load's register takes the bytes of its size, and a refused access traps
+-- what the answer of a row's access makes of it: a load's register takes the bytes of its size, and a refused access
+-- traps
 abbrev pub completed : Hart → Instr → Option ℕ → Effect
 completed h (Lb rd rs1 imm) (Some answer) = sets h rd (sign_extended 8 (low_bits 8 answer))
 completed h (Lh rd rs1 imm) (Some answer) = sets h rd (sign_extended 16 (low_bits 16 answer))

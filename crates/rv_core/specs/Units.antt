@@ -18,8 +18,10 @@ use Rattle.rv_core.specs.Rows.{performed, completed, next_pc, fetch_fault, illeg
 -- the hart after what a row does
 abbrev pub applied : Hart → Effect → Hart
 applied h (Goes rd value pc) = record { pc = pc; regs = with_reg h.regs rd value; csrs = h.csrs }
-applied h (Updates rd value number new) = record { pc = next_pc h; regs = with_reg h.regs rd value; csrs = written h.csrs number new }
-applied h (Traps cause value) = record { pc = handler h.csrs cause; regs = h.regs; csrs = trapped h.csrs cause h.pc value }
+applied h (Updates rd value number new) =
+    record { pc = next_pc h; regs = with_reg h.regs rd value; csrs = written h.csrs number new }
+applied h (Traps cause value) =
+    record { pc = handler h.csrs cause; regs = h.regs; csrs = trapped h.csrs cause h.pc value }
 applied h Returns = record { pc = return_to h.csrs; regs = h.regs; csrs = returned h.csrs }
 applied h (Accesses access i) = h
 

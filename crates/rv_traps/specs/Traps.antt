@@ -50,7 +50,8 @@ timer_interrupt = 0x80000007
 abbrev pub external_interrupt : ℕ
 external_interrupt = 0x8000000b
 
--- the cause of the interrupt that is taken: MIE is 1, and mie and the pending interrupts share a bit; external goes first
+-- the cause of the interrupt that is taken: MIE is 1, and mie and the pending interrupts share a bit; external goes
+-- first
 abbrev pub interrupt_of : List ℕ → ℕ → Option ℕ
 interrupt_of csrs pending =
     let shared = bit_and (held csrs mie) pending in

@@ -36,7 +36,8 @@ overlap_fault p = Overlap p.0 p.1
 
 -- The first fault of windows beside RAM of a size.
 abbrev pub fault_found : List Window → ℕ → Option MapFault
-fault_found windows ram = or_else (misaligned_found 0 windows) (option_map overlap_fault (overlap_found 0 (parts_of windows ram)))
+fault_found windows ram =
+    or_else (misaligned_found 0 windows) (option_map overlap_fault (overlap_found 0 (parts_of windows ram)))
 
 -- What making a map answers.
 abbrev pub Maps : List Window → ℕ → Result MapState MapFault → Type 0

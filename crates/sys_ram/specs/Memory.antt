@@ -1,4 +1,5 @@
--- What RAM is to the parts of a machine: a list of bytes from an address on, which is read and written by ranges of addresses.
+-- What RAM is to the parts of a machine: a list of bytes from an address on, which is read and written by ranges of
+-- addresses.
 use Rattle.std.specs.Prelude.{ℕ, ◌+◌, ◌-◌, ◌%◌, Bool, true, false, ◌&&◌, nat_le, if◌then◌else◌, List, [], ◌∷◌, length, take, drop, replicate, map, Option, Some, None}
 use Rattle.cos_base.specs.Octets.{overwritten}
 use Rattle.cosim_model.specs.Values.{bytes_of, le}
@@ -9,7 +10,8 @@ ram_base = 0x80000000
 
 -- Where in RAM of a size the n bytes from an address on stand, where the whole range is in RAM. Sums don't wrap.
 abbrev pub place_of : ℕ → ℕ → ℕ → Option ℕ
-place_of size addr n = if nat_le ram_base addr && nat_le (addr + n) (ram_base + size) then Some (addr - ram_base) else None
+place_of size addr n = if nat_le ram_base addr && nat_le (addr + n) (ram_base + size) then Some (addr - ram_base)
+    else None
 
 -- The n bytes from a place on.
 abbrev pub part_of : List ℕ → ℕ → ℕ → List ℕ

@@ -29,8 +29,9 @@ page_at ps k = slice_index_or ps k None
 abbrev pub AreThere : List (Option (List ℕ)) → ℕ → ℕ → Type 0
 AreThere ps at n = (k : ℕ) → at / 4096 ≤ k → 4096 * k < at + n → is_some (page_at ps k) ≡ true
 
--- The memory after some bytes were written from a place on. `first` is the number of the first of them, by which enables tell
--- whether it is enabled.
+-- The memory after some bytes were written from a place on. `first` is the number of the first of them, by which
+-- enables tell whether it is enabled.
 abbrev pub written_from : List ℕ → ℕ → List ℕ → List ℕ → ℕ → List ℕ
 written_from bytes at new enables first =
-    overwritten bytes at (merged (map (is_enabled enables) (count_from first (length new))) new (part_of bytes at (length new)))
+    overwritten bytes at
+        (merged (map (is_enabled enables) (count_from first (length new))) new (part_of bytes at (length new)))

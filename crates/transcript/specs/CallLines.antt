@@ -15,7 +15,8 @@ use Rattle.cos_text.specs.Numbers.{hexadecimal}
 -- when a call was made, at which port, what it did, and the bytes that it is about
 abbrev pub place_text : ℕ → ℕ → List ℕ → ℕ → ℕ → List ℕ
 place_text tick port name addr size = concat (
-    codes "@" ∷ decimal tick ∷ codes " p" ∷ decimal port ∷ codes " " ∷ name ∷ codes " 0x" ∷ hexadecimal addr ∷ codes "+" ∷ decimal size ∷ [])
+    codes "@" ∷ decimal tick ∷ codes " p" ∷ decimal port ∷ codes " " ∷ name ∷ codes " 0x" ∷ hexadecimal addr ∷ codes "+"
+        ∷ decimal size ∷ [])
 
 -- what was read, or is written
 abbrev pub value_text : ℕ → List ℕ
@@ -27,9 +28,12 @@ code_text code = concat (codes " code " ∷ decimal code ∷ codes "\n" ∷ [])
 
 -- by whether it is a write, and whether it is posted
 abbrev pub access_line : Bool → Bool → ℕ → ℕ → Access → Answer → List ℕ
-access_line false posted tick port a x = place_text tick port (codes "read") a.addr a.size ++ value_text x.value ++ code_text x.code
-access_line true false tick port a x = place_text tick port (codes "write") a.addr a.size ++ value_text a.value ++ code_text x.code
-access_line true true tick port a x = place_text tick port (codes "post") a.addr a.size ++ value_text a.value ++ codes "\n"
+access_line false posted tick port a x = place_text tick port (codes "read") a.addr a.size ++ value_text x.value
+    ++ code_text x.code
+access_line true false tick port a x = place_text tick port (codes "write") a.addr a.size ++ value_text a.value
+    ++ code_text x.code
+access_line true true tick port a x = place_text tick port (codes "post") a.addr a.size ++ value_text a.value
+    ++ codes "\n"
 
 -- What a reply shows of the bytes read: zeros where its code isn't 0.
 abbrev pub shown_bytes : Reply → List ℕ
@@ -44,11 +48,14 @@ abbrev pub mask_text : ℕ → List ℕ
 mask_text mask = codes " mask 0x" ++ hexadecimal mask
 
 abbrev pub want_line : ℕ → ℕ → ℕ → Want → Reply → List ℕ
-want_line tick port due (Fetch addr size) r = place_text tick port (codes "fetch") addr size ++ due_text due ++ encode_lower (shown_bytes r) ++ code_text r.code
-want_line tick port due (Store addr size bytes mask) r = place_text tick port (codes "store") addr size ++ due_text due ++ encode_lower (take size bytes)
+want_line tick port due (Fetch addr size) r = place_text tick port (codes "fetch") addr size ++ due_text due
+    ++ encode_lower (shown_bytes r) ++ code_text r.code
+want_line tick port due (Store addr size bytes mask) r = place_text tick port (codes "store") addr size ++ due_text due
+    ++ encode_lower (take size bytes)
     ++ mask_text mask ++ code_text r.code
 want_line tick port due (Line line level) r = concat (
-    codes "@" ∷ decimal tick ∷ codes " p" ∷ decimal port ∷ codes " line " ∷ decimal line ∷ codes " = " ∷ decimal (if level then 1 else 0)
+    codes "@" ∷ decimal tick ∷ codes " p" ∷ decimal port ∷ codes " line " ∷ decimal line ∷ codes " = "
+        ∷ decimal (if level then 1 else 0)
     ∷ codes " due " ∷ decimal due ∷ codes "\n" ∷ [])
 
 abbrev pub call_text : Call → List ℕ

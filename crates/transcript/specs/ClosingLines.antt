@@ -11,7 +11,8 @@ use Rattle.transcript.specs.CallLines.{call_text}
 
 -- how the machine stopped, or that the budget ran out
 abbrev pub stop_line : Option ℕ → ℕ → List ℕ
-stop_line (Some code) ticks = concat (codes "stop halted " ∷ decimal code ∷ codes " at " ∷ decimal ticks ∷ codes "\n" ∷ [])
+stop_line (Some code) ticks =
+    concat (codes "stop halted " ∷ decimal code ∷ codes " at " ∷ decimal ticks ∷ codes "\n" ∷ [])
 stop_line None ticks = concat (codes "stop budget at " ∷ decimal ticks ∷ codes "\n" ∷ [])
 
 -- a blank and a register
@@ -21,11 +22,13 @@ register_text value = 32 ∷ word_digits value
 -- of a hart its pc, and x1 to x31
 abbrev pub hart_lines : Option HartView → List ℕ
 hart_lines None = []
-hart_lines (Some h) = concat (codes "pc " ∷ word_digits h.pc ∷ codes "\nregs" ∷ flat_map register_text (drop 1 h.regs) ∷ codes "\n" ∷ [])
+hart_lines (Some h) =
+    concat (codes "pc " ∷ word_digits h.pc ∷ codes "\nregs" ∷ flat_map register_text (drop 1 h.regs) ∷ codes "\n" ∷ [])
 
 -- the levels of the interrupt lines, and the hash of RAM
 abbrev pub state_lines : ℕ → List ℕ → List ℕ
-state_lines lines ram = concat (codes "lines " ∷ word_digits lines ∷ codes "\nram " ∷ encode_lower ram ∷ codes "\n" ∷ [])
+state_lines lines ram =
+    concat (codes "lines " ∷ word_digits lines ∷ codes "\nram " ∷ encode_lower ram ∷ codes "\n" ∷ [])
 
 -- a blank; nothing where there are no bytes
 abbrev pub blank_before : List ℕ → List ℕ

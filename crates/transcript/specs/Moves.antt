@@ -21,12 +21,14 @@ Moves old new held now text (Ok done) = Passes old new held now text
 Moves old new held now text (Err e) = Puts old new (held ++ text) (Err e)
 
 -- Over a sound sink a put fails only where all has no room, and the room is lowered by what was put.
-pub record MovesSoundly (old new : Option (List ℕ)) (before now : ℕ) (whole : List ℕ) (result : Result Unit Failed) : Type 0 where
+pub record MovesSoundly (old new : Option (List ℕ)) (before now : ℕ) (whole : List ℕ) (result : Result Unit Failed)
+    : Type 0 where
   pub cause : MatchResult result (λ _. Unit {0}) (λ _. before < length whole)
   pub lowers : now + length (written new) ≡ before + length (written old)
 
 -- A text went to a sink through a piece: `held` is what the piece had before, and `now` what it has then.
-pub record Moved {S : Type 0} (told : S → Option (List ℕ)) (count room : S → ℕ) (sound : S → Type 0) (old new : S) (held now text : List ℕ) (result : Result Unit Failed) : Type 0 where
+pub record Moved {S : Type 0} (told : S → Option (List ℕ)) (count room : S → ℕ) (sound : S → Type 0) (old new : S)
+    (held now text : List ℕ) (result : Result Unit Failed) : Type 0 where
   pub counts : Counts (count old) (count new) result
   pub tells : Moves (told old) (told new) held now text result
   pub is_sound : sound old → sound new × MovesSoundly (told old) (told new) (room old) (room new) (held ++ text) result

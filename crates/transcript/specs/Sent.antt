@@ -7,7 +7,8 @@ use Rattle.transcript.specs.declared.ending.Out.{Out}
 
 -- the low byte of a write of size 4 at address 0 of the port, posted or not, and refused or not
 abbrev pub sent_in : ℕ → Call → List ℕ
-sent_in p (call.Access tick port a x) = if nat_eq port p && a.write && nat_eq a.size 4 && nat_eq a.addr 0 then a.value % 256 ∷ [] else []
+sent_in p (call.Access tick port a x) = if nat_eq port p && a.write && nat_eq a.size 4
+    && nat_eq a.addr 0 then a.value % 256 ∷ [] else []
 sent_in p (call.Served tick port due w r) = []
 
 -- what the UART of a port sent
