@@ -58,13 +58,13 @@ pub record Fails (old new : Calls) (other : Type 0) : Type 0 where
 abbrev pub FileCalls : {T : Type 0} → Calls → Calls → Type 0 → Result T FileFault → Type 0
 FileCalls old new other result =
     MatchResult result (λ _. Passes old new)
-        (λ e. elim e [ file.Failed ↦ Fails old new other | file.NoMemory ↦ new ≡ old ])
+    (λ e. elim e [ file.Failed ↦ Fails old new other | file.NoMemory ↦ new ≡ old ])
 
 -- of a network in memory
 abbrev pub NetCalls : {T : Type 0} → Calls → Calls → Type 0 → Result T NetFault → Type 0
 NetCalls old new other result =
     MatchResult result (λ _. Passes old new)
-        (λ e. elim e [ net.Failed ↦ Fails old new other | net.NoMemory ↦ new ≡ old ])
+    (λ e. elim e [ net.Failed ↦ Fails old new other | net.NoMemory ↦ new ≡ old ])
 
 -- of a sink in memory
 abbrev pub SinkCalls : Calls → Calls → Type 0 → Result Unit Failed → Type 0

@@ -33,8 +33,8 @@ within-hears (Some t) new received bytes is grows within = λ s e.
     let two = ap (λ o. unwrap_or o s) (sym e ∙ is) in
     subst (λ x. IsFront received (said_of x)) (sym two)
     (IsPrefix-front_of received (t.says (t.heard ++ bytes))
-        (IsPrefix-trans received (said_of t) (t.says (t.heard ++ bytes))
-        (front-IsPrefix received (said_of t) (within t refl)) (grows t.heard bytes)))
+    (IsPrefix-trans received (said_of t) (t.says (t.heard ++ bytes))
+    (front-IsPrefix received (said_of t) (within t refl)) (grows t.heard bytes)))
 
 -- and so when a piece of what is said was received
 pub within-reads : (o : Option Spoken) (received mid now front into : List ℕ) (at n m : ℕ) → mid ≡ received → at
@@ -47,7 +47,7 @@ within-reads (Some t) received mid now front into at n m same place piece longer
     let at-end : at ≡ length received = place ∙ ap length same in
     let is : now ≡ received ++ take n (drop (length received) (said_of t)) =
     longer ∙ ap (λ l. l ++ front) same
-        ∙ ap (λ l. received ++ l) (piece ∙ copied.1 ∙ ap (λ a. take n (drop a (said_of t))) at-end) in
+    ∙ ap (λ l. received ++ l) (piece ∙ copied.1 ∙ ap (λ a. take n (drop a (said_of t))) at-end) in
     subst (λ x. IsFront now (said_of x)) two (IsPrefix-front_of now (said_of t)
     (subst (λ l. IsPrefix l (said_of t)) (sym is)
-        (IsPrefix-longer received (said_of t) n (front-IsPrefix received (said_of t) (within t refl)))))
+    (IsPrefix-longer received (said_of t) n (front-IsPrefix received (said_of t) (within t refl)))))

@@ -32,9 +32,10 @@ abbrev pub issue_step : ScriptState → List ScriptStep → Bool → ScriptStep 
 issue_step m rest true (Wait units) = (record m { wait = units - 1; left = rest; issued = None }, None)
 issue_step m rest true (Read port addr size) =
     (record m { left = rest; issued = bus_of (Read port addr size) }, bus_of (Read port addr size))
-issue_step m rest true (Write port addr size value posted) =
-    (record m { left = rest; issued = bus_of (Write port addr size value posted) },
-    bus_of (Write port addr size value posted))
+issue_step m rest true (Write port addr size value posted) = (
+  record m { left = rest; issued = bus_of (Write port addr size value posted) },
+  bus_of (Write port addr size value posted),
+)
 issue_step m rest false step = (record m { left = rest; issued = None }, None)
 
 abbrev pub issue_first : ScriptState → List ScriptStep → ScriptState × Option Bus

@@ -22,10 +22,14 @@ fits ports (Wait units) = is_wait units
 -- The access of a step, with every lane.
 abbrev pub bus_of : ScriptStep → Option Bus
 bus_of (Read port addr size) =
-    Some (record { port = port;
-    access = record { write = false; posted = false; addr = addr; size = size; value = 0; lanes = all_lanes size } })
+    Some (record {
+      port = port;
+      access = record { write = false; posted = false; addr = addr; size = size; value = 0; lanes = all_lanes size };
+    })
 bus_of (Write port addr size value posted) =
-    Some (record { port = port;
-    access =
-    record { write = true; posted = posted; addr = addr; size = size; value = value; lanes = all_lanes size } })
+    Some (record {
+      port = port;
+      access =
+          record { write = true; posted = posted; addr = addr; size = size; value = value; lanes = all_lanes size };
+    })
 bus_of (Wait units) = None

@@ -21,7 +21,7 @@ use Rattle.cosim_assembly.specs.Images.{image_of}
 abbrev pub IsFaulty : List ℕ → ℕ → Cause → Type 0
 IsFaulty bytes number cause =
     (IsUtf8 bytes × Assembled (program 0x80000000 bytes) (Err (Line number cause)))
-        ⊎ ((IsUtf8 bytes → ⊥) × (number ≡ 1) × (cause ≡ Syntax))
+    ⊎ ((IsUtf8 bytes → ⊥) × (number ≡ 1) × (cause ≡ Syntax))
 
 -- the image of a text whose first word lies where RAM begins, or why it is refused
 abbrev pub Images : List ℕ → Result (List ℕ) AsmRefusal → Type 0

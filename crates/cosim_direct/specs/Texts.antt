@@ -36,5 +36,5 @@ abbrev pub run_lines : Direct AnyMaster AnyDevice → List PortConfig → List �
 run_lines r ports =
     flat_map call_text r.calls
     ++ (stop_line (any_stopped r.master) r.tick ++ hart_lines (any_closing r.master).hart
-        ++ state_lines (any_closing r.master).lines (sha256 (any_ram r.master))
+    ++ state_lines (any_closing r.master).lines (sha256 (any_ram r.master))
     ++ flat_map (sent_line r.calls) (uarts_from 0 ports))

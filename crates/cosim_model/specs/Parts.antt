@@ -59,9 +59,10 @@ lined k m number level false = m
 abbrev pub served : {M : Type 0} → MasterModel M → M → Want → M × Reply
 served k m (Fetch addr size) =
     (m, record { code = (k.read m addr size).0; size = size; bytes = padded (k.read m addr size).1 })
-served k m (Store addr size bytes mask) =
-    ((k.write m addr (take size bytes) (bits_of mask size)).0,
-    record { code = (k.write m addr (take size bytes) (bits_of mask size)).1; size = 0; bytes = no_bytes })
+served k m (Store addr size bytes mask) = (
+  (k.write m addr (take size bytes) (bits_of mask size)).0,
+  record { code = (k.write m addr (take size bytes) (bits_of mask size)).1; size = 0; bytes = no_bytes },
+)
 served k m (Line number level) =
     (lined k m number level (nat_le number 31), record { code = 0; size = 0; bytes = no_bytes })
 

@@ -35,17 +35,34 @@ pub record Session : Type 0 where
 
 abbrev pub fresh_session : Role → Caps → Caps → Session
 fresh_session role offers needs =
-    record { role = role; offers = offers; needs = needs; next = 0; common = no_caps; hello_went = false;
-    hello_came = false; own_sync = None; own_other = None; peer_sync = None; peer_other = None; peer_time = 0;
-    count = 0; fault = None }
+    record {
+      role = role;
+      offers = offers;
+      needs = needs;
+      next = 0;
+      common = no_caps;
+      hello_went = false;
+      hello_came = false;
+      own_sync = None;
+      own_other = None;
+      peer_sync = None;
+      peer_other = None;
+      peer_time = 0;
+      count = 0;
+      fault = None;
+    }
 
 abbrev pub next_number : ℕ → ℕ
 next_number n = (n + 1) % 4294967296
 
 abbrev pub both : Caps → Caps → Caps
 both theirs ours =
-    record { base = theirs.base && ours.base; enables = theirs.enables && ours.enables; posted = theirs.posted
-    && ours.posted }
+    record {
+      base = theirs.base && ours.base;
+      enables = theirs.enables && ours.enables;
+      posted = theirs.posted
+          && ours.posted;
+    }
 
 abbrev pub at_machine : Role → Bool
 at_machine Machine = true
@@ -225,9 +242,10 @@ event_of s p false (Interrupt time vector line val) = asked_at s p (is_posted s.
 
 abbrev pub judged : Session → Packet → Option SessionFault → Session × Result Event SessionFault
 judged s p (Some f) = (record s { fault = Some f }, Err f)
-judged s p None =
-    ((event_of (record s { count = counted s.role s.count }) p (is_response p) p.body).0,
-    Ok (event_of s p (is_response p) p.body).1)
+judged s p None = (
+  (event_of (record s { count = counted s.role s.count }) p (is_response p) p.body).0,
+  Ok (event_of s p (is_response p) p.body).1,
+)
 
 abbrev pub take_kept : Session → Packet → Option SessionFault → Session × Result Event SessionFault
 take_kept s p (Some f) = (s, Err f)

@@ -37,8 +37,19 @@ pub record DiskRegisters : Type 0 where
 
 abbrev pub fresh_disk : ℕ → List ℕ → List ℕ → DiskRegisters
 fresh_disk line image bad =
-    record { sector = 0; count = 0; address = 0; to_disk = false; enabled = false; done = false; error = false;
-    engine = Idle; wire = fresh_wire line; sectors = image; bad = bad }
+    record {
+      sector = 0;
+      count = 0;
+      address = 0;
+      to_disk = false;
+      enabled = false;
+      done = false;
+      error = false;
+      engine = Idle;
+      wire = fresh_wire line;
+      sectors = image;
+      bad = bad;
+    }
 
 abbrev pub is_busy : Engine → Bool
 is_busy Idle = false
@@ -98,9 +109,11 @@ abbrev pub can_start : DiskRegisters → Bool
 can_start s = nat_le 1 s.count && nat_le s.count 128 && nat_le (s.sector + s.count) (size s.sectors)
 
 abbrev pub started : DiskRegisters → (to_disk enabled can : Bool) → DiskRegisters × Answer
-started s to_disk enabled true =
-    (present (record s { to_disk = to_disk; enabled = enabled; done = false; error = false }) (8 * s.count - 1)
-    (is_bad s.bad s.sector), given 0)
+started s to_disk enabled true = (
+  present (record s { to_disk = to_disk; enabled = enabled; done = false; error = false }) (8 * s.count - 1)
+      (is_bad s.bad s.sector),
+  given 0,
+)
 started s to_disk enabled false = (s, refused 1)
 
 abbrev pub controlled : DiskRegisters → (starts to_disk enabled : Bool) → DiskRegisters × Answer
@@ -166,8 +179,10 @@ fed s reply false = worked s s.engine reply.code reply.bytes
 
 abbrev pub disk_model : DeviceModel DiskRegisters
 disk_model = record {
-  access = λ s tick a. (settled (is_busy s.engine) (acted (advanced s tick) (requested a)).0,
-      (acted (advanced s tick) (requested a)).1);
+  access = λ s tick a. (
+    settled (is_busy s.engine) (acted (advanced s tick) (requested a)).0,
+    (acted (advanced s tick) (requested a)).1,
+  );
   advance = advanced;
   want = λ s. wanted_before s.wire (chunk_want s s.engine);
   feed = λ s reply. fed s reply s.wire.pending;

@@ -33,8 +33,17 @@ pub record DmaRegisters : Type 0 where
 
 abbrev pub fresh_dma : ℕ → DmaRegisters
 fresh_dma line =
-    record { source = 0; destination = 0; len = 0; mask = 4294967295; enabled = false; done = false; error = false;
-    engine = Idle; wire = fresh_wire line }
+    record {
+      source = 0;
+      destination = 0;
+      len = 0;
+      mask = 4294967295;
+      enabled = false;
+      done = false;
+      error = false;
+      engine = Idle;
+      wire = fresh_wire line;
+    }
 
 abbrev pub is_busy : Engine → Bool
 is_busy Idle = false
@@ -149,8 +158,10 @@ dma_needs = record { base = true; enables = true; posted = false }
 
 abbrev pub dma_model : DeviceModel DmaRegisters
 dma_model = record {
-  access = λ s tick a. (settled (is_busy s.engine) (acted (advanced s tick) (requested a)).0,
-      (acted (advanced s tick) (requested a)).1);
+  access = λ s tick a. (
+    settled (is_busy s.engine) (acted (advanced s tick) (requested a)).0,
+    (acted (advanced s tick) (requested a)).1,
+  );
   advance = advanced;
   want = λ s. wanted_before s.wire (chunk_want s s.engine);
   feed = λ s reply. fed s reply s.wire.pending;

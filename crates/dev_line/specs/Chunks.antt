@@ -44,11 +44,11 @@ padded-take xs n few most =
     let zeros : ℕ → List ℕ = λ k. replicate k 0 in
     let front : take n (padded xs) ≡ xs ++ zeros (n - length xs) =
     (ap (take n) (padded-is xs (omega arith)) ∙ take-past n xs _ few
-        ∙ ap (λ ys. xs ++ ys) (take-replicate (n - length xs) (64 - length xs) 0 (omega arith))) in
+    ∙ ap (λ ys. xs ++ ys) (take-replicate (n - length xs) (64 - length xs) 0 (omega arith))) in
     let long : length (xs ++ zeros (n - length xs))
-        ≡ n =
-        (length-append xs (zeros (n - length xs)) ∙ ap (λ k. length xs + k) (length-replicate (n - length xs) 0)
-        ∙ (omega arith)) in
+    ≡ n =
+    (length-append xs (zeros (n - length xs)) ∙ ap (λ k. length xs + k) (length-replicate (n - length xs) 0)
+    ∙ (omega arith)) in
     ap padded front
     ∙ padded-is (xs ++ zeros (n - length xs)) (omega arith)
     ∙ ap (λ k. (xs ++ zeros (n - length xs)) ++ zeros (64 - k)) long

@@ -28,11 +28,29 @@ write_fields p = body_size p.body ∷ fields_of p ++ replicate (body_size p.body
 
 abbrev pub bus_from : List ℕ → BusFields
 bus_from (time ∷ attributes ∷ addr ∷ len ∷ width ∷ stream_width ∷ master ∷ n ∷ k ∷ rest) =
-    record { time = time; attributes = attributes; addr = addr; len = len; width = width; stream_width = stream_width;
-    master = master; payload = take n rest; enables = take k (drop n rest) }
+    record {
+      time = time;
+      attributes = attributes;
+      addr = addr;
+      len = len;
+      width = width;
+      stream_width = stream_width;
+      master = master;
+      payload = take n rest;
+      enables = take k (drop n rest);
+    }
 bus_from _ =
-    record { time = 0; attributes = 0; addr = 0; len = 0; width = 0; stream_width = 0; master = 0; payload = [];
-    enables = [] }
+    record {
+      time = 0;
+      attributes = 0;
+      addr = 0;
+      len = 0;
+      width = 0;
+      stream_width = 0;
+      master = 0;
+      payload = [];
+      enables = [];
+    }
 
 abbrev pub hello_from : List ℕ → Body
 hello_from (major ∷ minor ∷ n ∷ rest) = Hello major minor (take n rest)

@@ -50,8 +50,10 @@ fresh_count numbers = record { left = numbers; issued = None }
 
 abbrev pub write_of : ℕ → Bus
 write_of n =
-    record { port = 0;
-    access = record { write = true; posted = false; addr = 0; size = 1; value = n % 256; lanes = 1 } }
+    record {
+      port = 0;
+      access = record { write = true; posted = false; addr = 0; size = 1; value = n % 256; lanes = 1 };
+    }
 
 abbrev pub count_issue : Counter → Bool → Counter × Option Bus
 count_issue m true = (record { left = m.left; issued = None }, None)

@@ -114,8 +114,8 @@ Ends Comes f k (Ok u) = (files : List Written) × (text : List ℕ) × Comes (Wo
 Ends Comes f k (Err (Refused r)) = (text : List ℕ) × Comes (Refuses r text) × StandTold f × PrintsBefore k text
 Ends Comes f k (Err (Outside object.Files n)) = IsUntouched k
     × (Stand f
-        ⊎ ((files : List Written) × (text : List ℕ) × Comes (Works files text) × (at : StopsAt files)
-        × HoldBut f at.done at.one.name))
+    ⊎ ((files : List Written) × (text : List ℕ) × Comes (Works files text) × (at : StopsAt files)
+    × HoldBut f at.done at.one.name))
 Ends Comes f k (Err (Outside object.Out n)) = (files : List Written) × (text : List ℕ) × Comes (Works files text)
     × Hold f files × PrintsPart k text
 Ends Comes f k (Err (Outside object.Net n)) = ⊥
@@ -123,8 +123,8 @@ Ends Comes f k (Err (Outside (object.Link port) n)) = ⊥
 Ends Comes f k (Err (Outside object.Spawner n)) = ⊥
 Ends Comes f k (Err NoMemory) = IsUntouched k
     × (Stand f
-        ⊎ ((files : List Written) × (text : List ℕ) × Comes (Works files text) × (at : StopsAt files)
-        × HoldSome f at.done))
+    ⊎ ((files : List Written) × (text : List ℕ) × Comes (Works files text) × (at : StopsAt files)
+    × HoldSome f at.done))
 
 -- How an outcome ends over sound objects, with this room of `out`: it works where its text fits, and otherwise `out` is
 -- blamed; files are blamed where one is lacking; a refusal is itself. Want of memory may always come.

@@ -37,8 +37,11 @@ calm_after_hub c (Some r) = record { hub = r.0; leaves = c.leaves; traffic = tra
 abbrev pub calm_after_leaf : {H L : Type 0} → Calm H L → ℕ → Option (L × List ℕ) → Calm H L
 calm_after_leaf c p None = c
 calm_after_leaf c p (Some r) =
-    record { hub = c.hub; leaves = set c.leaves p r.0;
-    traffic = set c.traffic p ((traffic_at c.traffic p).0, (traffic_at c.traffic p).1 ++ r.1) }
+    record {
+      hub = c.hub;
+      leaves = set c.leaves p r.0;
+      traffic = set c.traffic p ((traffic_at c.traffic p).0, (traffic_at c.traffic p).1 ++ r.1);
+    }
 
 abbrev pub calm_after : {H L : Type 0} → Star H L → Calm H L → Move → Calm H L
 calm_after star c HubMoves = calm_after_hub c (calm_hub_turn star c)
@@ -125,7 +128,7 @@ pub record IsHubLast {H L : Type 0} (star : Star H L) (hub : H) (leaves : List L
     (moves : List Move) : Type 0 where
   pub hub_all : (p : ℕ)
       → c.hub_taken (calm_end star hub leaves moves).hub p
-          ≡ length (traffic_at (calm_end star hub leaves moves).traffic p).1
+      ≡ length (traffic_at (calm_end star hub leaves moves).traffic p).1
   pub leaf_all : (p : ℕ) (l : L) → slice_get (calm_end star hub leaves moves).leaves p ≡ Some l
       → c.leaf_taken l ≡ length (traffic_at (calm_end star hub leaves moves).traffic p).0
   pub ends : (p : ℕ) → p < length leaves → EndsBySending star hub leaves moves p

@@ -121,7 +121,7 @@ abbrev pub IsHonest : {S : Type 0} → Network S → ℕ → (ℕ → List ℕ �
 IsHonest {S} net h said =
     (j : ℕ) → ((j ≡ h) × ((y : List ℕ) → said j y ≡ []))
     ⊎ ((j ≢ h)
-        × ((y : List ℕ) → (n : ℕ) × (s : S) × (o : Streams) × IsMaximalRun net j (only h y) n s o × (o h ≡ said j y)))
+    × ((y : List ℕ) → (n : ℕ) × (s : S) × (o : Streams) × IsMaximalRun net j (only h y) n s o × (o h ≡ said j y)))
 
 -- Only the queues from and to h have bytes in f.
 pub record IsStar {S : Type 0} (f : World S) (h : ℕ) : Type 0 where

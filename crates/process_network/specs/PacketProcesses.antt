@@ -25,8 +25,10 @@ abbrev pub after_take :
     {C M : Type 0} → Protocol C M → ℕ → ProcessState C → ℕ → Option (M × ℕ) → Option (ProcessState C × Streams)
 after_take proto i s p None = None
 after_take proto i s p (Some r) =
-    Some (record { core = (proto.take_packet i s.core r.0).0; taken = update s.taken p (s.taken p + r.1) },
-        (proto.take_packet i s.core r.0).1)
+    Some (
+      record { core = (proto.take_packet i s.core r.0).0; taken = update s.taken p (s.taken p + r.1) },
+      (proto.take_packet i s.core r.0).1,
+    )
 
 abbrev pub turn_by_outlook :
     {C M : Type 0} → Protocol C M → ℕ → ProcessState C → Streams → Outlook C → Option (ProcessState C × Streams)

@@ -60,8 +60,10 @@ abbrev pub leaf_after_take :
     {H L P : Type 0} → Ends H L P → LeafEnd L → Option (P × ℕ) → Option (LeafEnd L × List ℕ)
 leaf_after_take e s None = None
 leaf_after_take e s (Some r) =
-    Some (record { core = (e.leaf_take s.core r.0).0; taken = s.taken + r.1 },
-        written e.write (e.leaf_take s.core r.0).1)
+    Some (
+      record { core = (e.leaf_take s.core r.0).0; taken = s.taken + r.1 },
+      written e.write (e.leaf_take s.core r.0).1,
+    )
 
 abbrev pub leaf_turn_by :
     {H L P : Type 0} → Ends H L P → LeafEnd L → List ℕ → LeafOutlook L P → Option (LeafEnd L × List ℕ)
@@ -71,8 +73,10 @@ leaf_turn_by e s x LeafHalts = None
 
 abbrev pub star_of : {H L P : Type 0} → Ends H L P → Star (HubEnd H) (LeafEnd L)
 star_of e =
-    record { hub_turn = λ s x. hub_turn_by e s x (e.hub_outlook s.core);
-    leaf_turn = λ s x. leaf_turn_by e s x (e.leaf_outlook s.core) }
+    record {
+      hub_turn = λ s x. hub_turn_by e s x (e.hub_outlook s.core);
+      leaf_turn = λ s x. leaf_turn_by e s x (e.leaf_outlook s.core);
+    }
 
 -- A written packet is the first one, whatever comes behind it.
 abbrev pub IsReadBack : {P : Type 0} → (List ℕ → Option (P × ℕ)) → (P → List ℕ) → P → Type 0
@@ -164,8 +168,11 @@ link_taken e q = length (written e.write q.back_taken)
 -- The calm run of bytes that these packets make.
 abbrev pub in_bytes : {H L P : Type 0} → Ends H L P → PacketWorld H L P → Calm (HubEnd H) (LeafEnd L)
 in_bytes e c =
-    record { hub = record { core = c.hub; taken = map (link_taken e) c.links }; leaves = map (link_leaf e) c.links;
-    traffic = map (link_traffic e) c.links }
+    record {
+      hub = record { core = c.hub; taken = map (link_taken e) c.links };
+      leaves = map (link_leaf e) c.links;
+      traffic = map (link_traffic e) c.links;
+    }
 
 -- Each packet that waits when a move is made is read back as it was written.
 abbrev pub IsReadable : {H L P : Type 0} → Ends H L P → PacketWorld H L P → Type 0

@@ -14,9 +14,9 @@ pub record Star (H L : Type 0) : Type 0 where
 abbrev pub IsStarMonotone : {H L : Type 0} → Star H L → Type 0
 IsStarMonotone {H} {L} star =
     ((h : H) (x y : Streams) (r : H × Option (ℕ × List ℕ)) → Below x y → star.hub_turn h x ≡ Some r → star.hub_turn h y
-        ≡ Some r)
+    ≡ Some r)
     × ((l : L) (x y : List ℕ) (r : L × List ℕ) → IsPrefix x y → star.leaf_turn l x ≡ Some r → star.leaf_turn l y
-        ≡ Some r)
+    ≡ Some r)
 
 -- The bytes sent to the leaf and how many of them were delivered, and the bytes sent back.
 pub record Link : Type 0 where

@@ -273,8 +273,8 @@ pub record IsRelayResult {H R L : Type 0} (rs : RelayStar H R L) (hub : H) (rela
   pub progress : (ss : List Step)
       → IsQuiescent (relay_network rs hub relay leaves) (outcome (relay_network rs hub relay leaves) ss)
       ⊎ ((s : Step)
-          × (is_effective (relay_network rs hub relay leaves) (outcome (relay_network rs hub relay leaves) ss) s
-          ≡ true))
+      × (is_effective (relay_network rs hub relay leaves) (outcome (relay_network rs hub relay leaves) ss) s
+      ≡ true))
   -- there are no more effective steps than moves, and bytes on the four queues of each port
   pub bound : (ss : List Step)
       → effective_steps (relay_network rs hub relay leaves) (start (relay_network rs hub relay leaves)) ss

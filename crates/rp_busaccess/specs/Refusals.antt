@@ -23,7 +23,7 @@ abbrev pub refused_extended : ℕ → ℕ → ℕ → ℕ → ℕ → Option Bus
 refused_extended size payload count enables enable_count =
     if not (stands size payload count) then Some (DataRange payload count)
     else (if not (stands size enables enable_count && apart payload count enables enable_count)
-        then Some (EnableRange enables enable_count)
+    then Some (EnableRange enables enable_count)
     else None)
 
 abbrev pub refused_bus : ℕ → Bool → ℕ → ℕ → ℕ → ℕ → Option BusFault
@@ -38,7 +38,7 @@ count_in carries body = if carries then field 44 4 body else 0
 abbrev pub bus_refusal : Bool → List ℕ → Option BusFault
 bus_refusal carries body =
     refused_bus (length body) (bit (field 28 8 body) 2) (count_in carries body) (field 64 4 body) (field 72 4 body)
-        (field 76 4 body)
+    (field 76 4 body)
 
 -- a fault other than want of memory is the first that applies
 abbrev pub IsRefusal : BusFault → Option BusFault → Type 0

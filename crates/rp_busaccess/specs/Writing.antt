@@ -41,7 +41,7 @@ abbrev pub write_fault : Bool → BusFields → Option WriteFault
 write_fault carries f =
     if not (is_extended f) && nat_lt 65535 f.master then Some (MasterTooWide f.master)
     else (if not (nat_eq (length f.payload) (data_count carries f))
-        then Some (DataCount (data_count carries f) (length f.payload))
+    then Some (DataCount (data_count carries f) (length f.payload))
     else (if not (is_extended f) && nat_lt 0 (length f.enables) then Some (EnablesInOld (length f.enables))
     else (if nat_lt 65536 (bus_size f) then Some (TooLong (bus_size f))
     else None)))

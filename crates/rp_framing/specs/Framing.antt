@@ -64,8 +64,12 @@ NextAt (Some fault) old new result = (new ≡ old) × (result ≡ Err (Malformed
 NextAt None old new (Ok None) = (first old.held ≡ None) × (new ≡ old)
 NextAt None old new (Ok (Some packet)) = (size : ℕ) × (first old.held ≡ Some (Valid (value_of packet), size))
     × Spells (value_of packet) (take size old.held)
-    × (new ≡ record { held = drop size old.held; taken = counted (old.taken + size); room = old.room + size;
-        kept = None })
+    × (new ≡ record {
+      held = drop size old.held;
+      taken = counted (old.taken + size);
+      room = old.room + size;
+      kept = None;
+    })
 NextAt None old new (Err (Malformed f)) = (f ≡ fault_at old.taken f.cause)
     × ((size : ℕ) × (first old.held ≡ Some (MalformedPacket f.cause, size)))
     × (new ≡ record { held = old.held; taken = old.taken; room = old.room; kept = Some f })

@@ -96,8 +96,12 @@ late_refusal b = body_cause (command_of (cmd_at b)) (bit (flags_at b) 1) (body_a
 
 unfoldable pub value_in : List ℕ → Packet
 value_in b =
-    record { id = id_at b; flags = flags_at b; dev = dev_at b;
-    body = body_in (command_of (cmd_at b)) (bit (flags_at b) 1) (body_at b) }
+    record {
+      id = id_at b;
+      flags = flags_at b;
+      dev = dev_at b;
+      body = body_in (command_of (cmd_at b)) (bit (flags_at b) 1) (body_at b);
+    }
 
 -- The packet that bytes begin with, and its number of bytes, where it is whole. A refused header is judged as soon as
 -- it is there, and so are 20 bytes.

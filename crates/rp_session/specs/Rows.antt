@@ -13,18 +13,18 @@ use Rattle.cosim_model.specs.Sessions.{Session, is_posted, fault_if, or_else, he
 abbrev pub hello_rows : Session → Packet → Option SessionFault
 hello_rows s p =
     or_else (hello_missing s.hello_came p.body)
-        (or_else (hello_again s.hello_came p.body) (or_else (wrong_version p.body) (hello_lacks s.needs p.body)))
+    (or_else (hello_again s.hello_came p.body) (or_else (wrong_version p.body) (hello_lacks s.needs p.body)))
 
 abbrev pub answer_rows : Session → Packet → Option SessionFault
 answer_rows s p =
     or_else (unsupported s.role (is_response p) p.body)
-        (or_else (stray_answer (is_response p) s p.id p.body) (wrong_answer (is_response p) s p.id p.body))
+    (or_else (stray_answer (is_response p) s p.id p.body) (wrong_answer (is_response p) s p.id p.body))
 
 abbrev pub request_rows : Session → Packet → Option SessionFault
 request_rows s p =
     or_else (not_in_common (is_response p) s.common p.body) (or_else (time_backwards (is_response p) s.peer_time p.body)
     (or_else (early_posted s.role (is_response p) (is_posted s.common p) s.own_sync p.id)
-        (second_request (is_response p) (is_posted s.common p) s p.id p.body)))
+    (second_request (is_response p) (is_posted s.common p) s p.id p.body)))
 
 -- a stray answer, by the own request of its class
 abbrev pub stray_row : Bool → Option OwnRequest → ℕ → Body → Option SessionFault

@@ -66,8 +66,10 @@ requested s false command.Read len =
 requested s false command.Write len =
     record s { next = next_number s.next; own_other = Some (record { cmd = command.Write; id = s.next; len = len }) }
 requested s false command.Interrupt len =
-    record s { next = next_number s.next;
-    own_other = Some (record { cmd = command.Interrupt; id = s.next; len = len }) }
+    record s {
+      next = next_number s.next;
+      own_other = Some (record { cmd = command.Interrupt; id = s.next; len = len });
+    }
 
 -- what the peer asked is out, until it is answered
 abbrev pub AsksOf : Session → Event → Type 0

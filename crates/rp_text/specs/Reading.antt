@@ -18,7 +18,7 @@ TakesWord old None new = (new ≡ None)
 TakesWord old (Some u) new =
     ((more : List ℕ) → new ≡ Some more → old ≡ Some (32 ∷ u ++ more))
     × ((w : List ℕ) (ws : List (List ℕ)) → no_blank w ≡ true → old ≡ Some (spaced (w ∷ ws)) → (u ≡ w)
-        × (new ≡ Some (spaced ws)))
+    × (new ≡ Some (spaced ws)))
 
 -- A decimal number of at most this size was taken: it stood in front of what is left, if anything is, and where such a
 -- number stood first, it was taken.

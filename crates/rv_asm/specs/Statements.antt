@@ -68,8 +68,8 @@ Assembles lines some words = (each : List (Option ℕ)) × (map (word_of_line li
 abbrev pub FirstFault : List Placed → ℕ → Cause → Type 0
 FirstFault lines number cause =
     (before : List Placed) × (line : Placed) × (after : List Placed) × (words : List ℕ)
-        × (lines ≡ before ++ line ∷ after) × Assembles lines before words × (line.number ≡ number)
-        × (word_of_line lines line ≡ Err cause)
+    × (lines ≡ before ++ line ∷ after) × Assembles lines before words × (line.number ≡ number)
+    × (word_of_line lines line ≡ Err cause)
 
 -- what a program assembles to
 abbrev pub Assembled : List Placed → Result (List ℕ) AsmFault → Type 0

@@ -7,8 +7,12 @@ use Rattle.rv_asm.specs.Programs.{Placed, placed_from}
 
 abbrev pub seen : Line → Placed
 seen line =
-    record { number = line.number; address = line.address; label = option_copied line.label;
-    statement = line.statement.now }
+    record {
+      number = line.number;
+      address = line.address;
+      label = option_copied line.label;
+      statement = line.statement.now;
+    }
 
 -- the lines that are left
 abbrev pub left : Lines → List Placed

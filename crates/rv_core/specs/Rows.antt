@@ -65,13 +65,13 @@ branches h taken offset = if taken then jumps h 0 (add h.pc offset) else continu
 abbrev pub loads : ℕ → ℕ → Instr → Effect
 loads size address i =
     if nat_eq (address % size) 0 then Accesses (record { write = false; addr = address; size = size; value = 0 }) i
-        else Traps misaligned_load address
+    else Traps misaligned_load address
 
 -- the access of a store
 abbrev pub stores : ℕ → ℕ → ℕ → Instr → Effect
 stores size address value i =
     if nat_eq (address % size) 0 then Accesses (record { write = true; addr = address; size = size; value = value }) i
-        else Traps misaligned_store address
+    else Traps misaligned_store address
 
 -- a row of Zicsr: the register takes the old value of the control register, which takes the updated one;
 -- an access to a control register that isn't there, or a write to a read-only one, is illegal

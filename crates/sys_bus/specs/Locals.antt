@@ -32,7 +32,7 @@ accessed-is m x is =
     let to_ram = store_of m.ram x.request.addr x.request.size x.request.value in
     let number = number_of m.ram x.request.addr x.request.size in
     either-are x.request.write (stored m x to_ram.0 to_ram.1) (loaded m x number) (stored-is m x to_ram.0 to_ram.1 is)
-        (loaded-is m x number is)
+    (loaded-is m x number is)
 
 after_effect-is : (m : Machine) (x : Option Waiting) → ((y : Waiting) → x ≡ Some y → IsHartAccess y.request)
     → AreAccesses (after_effect m x).1

@@ -13,7 +13,7 @@ abbrev pub register_at : ℕ → ℕ → Option SystemRegister
 register_at offset size =
     if nat_eq size 4 then
     if nat_eq offset 0 then Some Power else if nat_eq offset 4 then Some Lines else if nat_eq offset 8 then Some Enable
-        else if nat_eq offset 12 then Some TimerEnable else None
+    else if nat_eq offset 12 then Some TimerEnable else None
     else None
 
 abbrev pub register_value : SystemBlock → SystemRegister → ℕ

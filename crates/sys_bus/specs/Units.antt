@@ -65,8 +65,14 @@ local_unit m = after_effect (record m { hart = applied m.hart (effect_in m) }) (
 abbrev pub bus_of : ℕ → Window → HartAccess → Bus
 bus_of port w a = record {
   port = port;
-  access = record { write = a.write; posted = a.write && w.posted; addr = a.addr - w.base; size = a.size;
-      value = a.value; lanes = 2 ^ a.size - 1 };
+  access = record {
+    write = a.write;
+    posted = a.write && w.posted;
+    addr = a.addr - w.base;
+    size = a.size;
+    value = a.value;
+    lanes = 2 ^ a.size - 1;
+  };
 }
 
 abbrev pub window_accessed : Machine → Waiting → Option (ℕ × Window) → Machine × Option Unfinished
@@ -76,7 +82,7 @@ window_accessed m x (Some found) = (m, Some (record { bus = bus_of found.0 found
 abbrev pub system_unit : Machine → Waiting → Machine
 system_unit m x =
     let answered = system_accessed m x.request (register_at (x.request.addr % 4096) x.request.size)
-        in finished answered.0 x.rest answered.1
+    in finished answered.0 x.rest answered.1
 
 -- Beyond RAM there are the system block, a page at 0x00100000, and the windows.
 abbrev pub accessed_beyond : MapState → Machine → Waiting → Machine × Option Unfinished
@@ -126,8 +132,10 @@ rv_model = record {
   line = λ s number level. record s { machine = record s.machine { system = lined s.machine.system number level } };
   stopped = λ s. s.machine.stopped;
   closing =
-      λ s. record { hart = Some (record { pc = s.machine.hart.pc; regs = s.machine.hart.regs });
-      lines = s.machine.system.lines };
+      λ s. record {
+        hart = Some (record { pc = s.machine.hart.pc; regs = s.machine.hart.regs });
+        lines = s.machine.system.lines;
+      };
   issued = λ s. bus_awaited s.waiting;
   reach = λ s. length s.map.windows;
   full = λ s. true;
@@ -136,8 +144,12 @@ rv_model = record {
 abbrev pub fresh_master : List ℕ → MapState → MasterState
 fresh_master ram map = record {
   machine =
-      record { hart = record { pc = 0x80000000; regs = replicate 32 0; csrs = reset_values }; ram = ram;
-      system = fresh_system; stopped = None };
+      record {
+        hart = record { pc = 0x80000000; regs = replicate 32 0; csrs = reset_values };
+        ram = ram;
+        system = fresh_system;
+        stopped = None;
+      };
   map = map;
   waiting = None;
 }

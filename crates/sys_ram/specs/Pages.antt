@@ -34,4 +34,4 @@ AreThere ps at n = (k : ℕ) → at / 4096 ≤ k → 4096 * k < at + n → is_so
 abbrev pub written_from : List ℕ → ℕ → List ℕ → List ℕ → ℕ → List ℕ
 written_from bytes at new enables first =
     overwritten bytes at
-        (merged (map (is_enabled enables) (count_from first (length new))) new (part_of bytes at (length new)))
+    (merged (map (is_enabled enables) (count_from first (length new))) new (part_of bytes at (length new)))

@@ -16,7 +16,7 @@ use Rattle.cos_text.specs.Numbers.{hexadecimal}
 abbrev pub place_text : ℕ → ℕ → List ℕ → ℕ → ℕ → List ℕ
 place_text tick port name addr size = concat (
     codes "@" ∷ decimal tick ∷ codes " p" ∷ decimal port ∷ codes " " ∷ name ∷ codes " 0x" ∷ hexadecimal addr ∷ codes "+"
-        ∷ decimal size ∷ [])
+    ∷ decimal size ∷ [])
 
 -- what was read, or is written
 abbrev pub value_text : ℕ → List ℕ
@@ -55,7 +55,7 @@ want_line tick port due (Store addr size bytes mask) r = place_text tick port (c
     ++ mask_text mask ++ code_text r.code
 want_line tick port due (Line line level) r = concat (
     codes "@" ∷ decimal tick ∷ codes " p" ∷ decimal port ∷ codes " line " ∷ decimal line ∷ codes " = "
-        ∷ decimal (if level then 1 else 0)
+    ∷ decimal (if level then 1 else 0)
     ∷ codes " due " ∷ decimal due ∷ codes "\n" ∷ [])
 
 abbrev pub call_text : Call → List ℕ
