@@ -20,10 +20,13 @@ ghost use Rattle.ends_model.specs.World.{Side, Fit, ends, device_start, machine_
 ghost use Rattle.every_schedule.specs.Places.{cause_at};
 ghost use Rattle.every_schedule.specs.Schedules.{IsEverySchedule, HasRoom, IsBounded, DrivesWell};
 
-/// A master, a device and a codec that keep their laws. The type is the master's state.
+/// A master, a device and a codec that keep their laws.
 ///
-/// Devices of several kinds are one type here, an enum of them.
+/// Masters of several kinds are one type here, an enum of them, and so are devices.
 pub trait System {
+    /// The state of a master.
+    type Master;
+
     /// The state of a device.
     type Device;
 
@@ -31,7 +34,7 @@ pub trait System {
     type Cause;
 
     /// The calls of the master.
-    ghost master: { MasterModel Self };
+    ghost master: { MasterModel Self.Master };
 
     /// The calls of a device.
     ghost device: { DeviceModel Self.Device };
@@ -59,16 +62,16 @@ pub trait System {
 /// many steps can be effective. `over_links`: the machine end alone, over links that give what the device ends would send, ends done and
 /// has sent the traffic.
 pub fn every_schedule<M: System>()
-    ensures schedules { (plan : Plan) (m : M) (xs : List (Side × M.Device))
+    ensures schedules { (plan : Plan) (m : M.Master) (xs : List (Side × M.Device))
         → Fit M.master M.device plan m xs
         → IsEverySchedule M.master M.device M.codec plan m xs }
-    ensures room { (plan : Plan) (m : M) (xs : List (Side × M.Device))
+    ensures room { (plan : Plan) (m : M.Master) (xs : List (Side × M.Device))
         → Fit M.master M.device plan m xs
         → HasRoom M.master M.device M.codec plan m xs }
-    ensures bounded { (plan : Plan) (m : M) (xs : List (Side × M.Device))
+    ensures bounded { (plan : Plan) (m : M.Master) (xs : List (Side × M.Device))
         → Fit M.master M.device plan m xs
         → IsBounded M.master M.device M.codec plan m xs }
-    ensures over_links { (plan : Plan) (m : M) (xs : List (Side × M.Device))
+    ensures over_links { (plan : Plan) (m : M.Master) (xs : List (Side × M.Device))
         → Fit M.master M.device plan m xs
         → DrivesWell M.master M.device M.codec plan m xs }
 {}
@@ -82,7 +85,7 @@ pub fn malformed_place<M: System>()
     ensures device { (side : Side) (s : M.Device) (x : List ℕ) (turns : ℕ) (l : LeafEnd (DeviceEnd M.Device M.Cause)) (sent : List ℕ)
         → IsLeafRun (star_of (ends M.master M.device M.codec)) (fresh_leaf (device_start M.Cause side s)) x turns l sent
         → HasTaken M.codec x l.taken (kept_cause l.core.fault) }
-    ensures machine { (plan : Plan) (m : M) (ports : ℕ) (x : Streams) (turns : ℕ) (h : HubEnd (MachineEnd M M.Cause)) (sent : Streams)
+    ensures machine { (plan : Plan) (m : M.Master) (ports : ℕ) (x : Streams) (turns : ℕ) (h : HubEnd (MachineEnd M.Master M.Cause)) (sent : Streams)
         → IsHubRun (star_of (ends M.master M.device M.codec)) ports (fresh_hub (machine_start M.Cause m ports plan) ports) x turns h sent
         → (p : ℕ) → HasTaken M.codec (x p) (get_or h.taken p 0) (cause_at p h.core.fault) }
     ensures one_place { (x : List ℕ) (start other : ℕ) (cause another : M.Cause)
@@ -96,7 +99,7 @@ pub fn malformed_place<M: System>()
 /// So whatever its links give, a machine end comes to phase Done, to a fault, or to a wait for bytes that never come. The round is the
 /// first that gives what the next one gives.
 pub fn talk_ends<M: System>()
-    ensures { (plan : Plan) (m : M) (ports : ℕ) (said : ℕ → List ℕ → List ℕ) → IsTelling said
-        → (rounds : ℕ) × (x : Streams) × (turns : ℕ) × (h : HubEnd (MachineEnd M M.Cause)) × (sent : Streams)
+    ensures { (plan : Plan) (m : M.Master) (ports : ℕ) (said : ℕ → List ℕ → List ℕ) → IsTelling said
+        → (rounds : ℕ) × (x : Streams) × (turns : ℕ) × (h : HubEnd (MachineEnd M.Master M.Cause)) × (sent : Streams)
         × IsFirstFixedHub (star_of (ends M.master M.device M.codec)) ports (fresh_hub (machine_start M.Cause m ports plan) ports) said rounds x turns h sent }
 {}

@@ -1,5 +1,5 @@
 -- A configuration that breaks no rule has parts that fit.
-use Rattle.std.proofs.Common.{◌≡◌, ℕ, zero, suc, ◌+◌, inl, Bool, true, false, List, [], ◌∷◌, length, Option, Some, None, slice_get, Result, Ok, Err, refl, subst, arith}
+use Rattle.std.proofs.Common.{◌≡◌, ℕ, zero, suc, ◌+◌, inl, Bool, true, false, List, [], ◌∷◌, length, map, Option, Some, None, slice_get, Result, Ok, Err, refl, ap, subst, arith}
 use Rattle.std.specs.Prelude.{option_map}
 use Rattle.std.specs.Str.{is_utf8}
 use Rattle.std.proofs.lemmas.List.{length-map}
@@ -20,7 +20,7 @@ use Rattle.cos_config.specs.First.{Found, first_of}
 use Rattle.cos_config.specs.Rules.{top_found, tables_found, parts_found, config_found, overlap_fault, lines_found, port_needs, needs_found, served_found, parts}
 use Rattle.cos_config.specs.Settings.{config_of}
 use Rattle.cosim_model.specs.declared.values.Caps.{Caps}
-use Rattle.cosim_inputs.specs.Fresh.{device_as, master_as, master_of, window_of}
+use Rattle.cosim_inputs.specs.Fresh.{device_as, device_of, devices_of, master_as, master_of, window_of}
 use Rattle.cosim_inputs.specs.Judging.{by_rules, judged_as, judged}
 use Rattle.cosim_inputs.specs.Limits.{IsWithinLimits}
 use Rattle.cosim_inputs.proofs.Limiting.{or_else-none, kept-within}
@@ -159,3 +159,8 @@ judged-fits sockets text c files is = read (is_utf8 text) (parse_document text) 
     read true (Some t) is = ruled t (config_found sockets t) refl is
     read true None is = not-config _ c is
     read false table is = not-config _ c is
+
+-- The devices are those of the direct machine.
+pub same-devices : (files : Store) (ports : List PortConfig) → map (λ (x : Side × AnyDevice). x.1) (ports_of files ports) ≡ devices_of files ports
+same-devices files [] = refl
+same-devices files (p ∷ ps) = ap (λ ds. device_of files p ∷ ds) (same-devices files ps)

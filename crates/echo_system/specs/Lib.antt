@@ -1,4 +1,0 @@
-pub mod Fields
-pub mod Parts
-pub mod FieldLaws
-pub mod PartLaws
