@@ -1,4 +1,5 @@
--- What each call of a value in memory does to its count of calls, and whether its number is one of those that are to fail. Want of memory is no call.
+-- What each call of a value in memory does to its count of calls, and whether its number is one of those that are to
+-- fail. Want of memory is no call.
 use Rattle.std.specs.Prelude.{◌≡◌, ◌==◌, ◌⊎◌, ℕ, ◌+◌, List, Bool, true, false, min, MatchResult}
 use Rattle.std.specs.List.{list_any}
 use Rattle.std.specs.declared.result.Result.{Result}
@@ -39,29 +40,31 @@ abbrev pub is_listed : Calls → Bool
 is_listed c = list_any (λ n. n == c.next) c.failing
 
 -- one call was made
-pub record Numbers (old new : Calls) : Type 0 where
+pub record IsCounted (old new : Calls) : Type 0 where
   pub next : new.next ≡ min (old.next + 1) 18446744073709551615
   pub failing : new.failing ≡ old.failing
 
 -- a call didn't fail: it isn't listed
 pub record Passes (old new : Calls) : Type 0 where
   pub unlisted : is_listed old ≡ false
-  pub numbers : Numbers old new
+  pub counted : IsCounted old new
 
 -- a call failed: it is listed, or there is another cause
 pub record Fails (old new : Calls) (other : Type 0) : Type 0 where
   pub cause : (is_listed old ≡ true) ⊎ other
-  pub numbers : Numbers old new
+  pub counted : IsCounted old new
 
 -- a call of files in memory
 abbrev pub FileCalls : {T : Type 0} → Calls → Calls → Type 0 → Result T FileFault → Type 0
 FileCalls old new other result =
-    MatchResult result (λ _. Passes old new) (λ e. elim e [ file.Failed ↦ Fails old new other | file.NoMemory ↦ new ≡ old ])
+    MatchResult result (λ _. Passes old new)
+    (λ e. elim e [ file.Failed ↦ Fails old new other | file.NoMemory ↦ new ≡ old ])
 
 -- of a network in memory
 abbrev pub NetCalls : {T : Type 0} → Calls → Calls → Type 0 → Result T NetFault → Type 0
 NetCalls old new other result =
-    MatchResult result (λ _. Passes old new) (λ e. elim e [ net.Failed ↦ Fails old new other | net.NoMemory ↦ new ≡ old ])
+    MatchResult result (λ _. Passes old new)
+    (λ e. elim e [ net.Failed ↦ Fails old new other | net.NoMemory ↦ new ≡ old ])
 
 -- of a sink in memory
 abbrev pub SinkCalls : Calls → Calls → Type 0 → Result Unit Failed → Type 0

@@ -1,4 +1,5 @@
--- What an object that keeps files tells: a map from names to bytes, and the names that it was asked for, in order. And what its calls do to them.
+-- What an object that keeps files tells: a map from names to bytes, and the names that it was asked for, in order.
+-- And what its calls do to them.
 use Rattle.std.specs.Prelude.{◌≡◌, ℕ, List, [], ◌∷◌, ◌++◌, IfSome, IsSomeAnd, IsErrOf, MatchResult}
 use Rattle.std.specs.declared.option.Option.{Option}
 use Rattle.std.specs.declared.option.Option.TheVariants.{Some, None}
@@ -51,7 +52,8 @@ Writes (Some m) new name bytes result =
 abbrev pub ReadsSoundly : {T : Type 0} → Option Store → List ℕ → Result T FileFault → Type 0
 ReadsSoundly old name result = IsErrOf result file.Failed → IsSomeAnd old (λ m. m name ≡ None)
 
--- Where it tells, the name stands behind those that it was asked for before, after a failure too; want of memory adds none.
+-- Where it tells, the name stands behind those that it was asked for before, after a failure too; want of memory adds
+-- none.
 abbrev pub Asks : {T : Type 0} → Option Store → List (List ℕ) → List (List ℕ) → List ℕ → Result T FileFault → Type 0
 Asks None before now name result = Unit {0}
 Asks (Some m) before now name result =
