@@ -1,8 +1,8 @@
 -- Two sides that talk: each is a function that gives all that it sends for any bytes received.
 use Rattle.std.specs.Prelude.{◌≡◌, ℕ, zero, suc, List, []}
 
--- What this side has received after so many exchanges, of a peer that gives `said y` for sent bytes y, where this side
--- sends `out x` for received bytes x.
+-- What this side has received after so many exchanges, where it sends `out x` for received bytes x, and the other side
+-- gives `said y` for sent bytes y.
 abbrev pub talk : (List ℕ → List ℕ) → (List ℕ → List ℕ) → ℕ → List ℕ
 talk said out zero = said []
 talk said out (suc k) = said (out (talk said out k))

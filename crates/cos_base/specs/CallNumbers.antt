@@ -40,19 +40,19 @@ abbrev pub is_listed : Calls → Bool
 is_listed c = list_any (λ n. n == c.next) c.failing
 
 -- one call was made
-pub record Numbers (old new : Calls) : Type 0 where
+pub record IsCounted (old new : Calls) : Type 0 where
   pub next : new.next ≡ min (old.next + 1) 18446744073709551615
   pub failing : new.failing ≡ old.failing
 
 -- a call didn't fail: it isn't listed
 pub record Passes (old new : Calls) : Type 0 where
   pub unlisted : is_listed old ≡ false
-  pub numbers : Numbers old new
+  pub counted : IsCounted old new
 
 -- a call failed: it is listed, or there is another cause
 pub record Fails (old new : Calls) (other : Type 0) : Type 0 where
   pub cause : (is_listed old ≡ true) ⊎ other
-  pub numbers : Numbers old new
+  pub counted : IsCounted old new
 
 -- a call of files in memory
 abbrev pub FileCalls : {T : Type 0} → Calls → Calls → Type 0 → Result T FileFault → Type 0

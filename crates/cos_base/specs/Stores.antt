@@ -1,5 +1,5 @@
--- What an object that keeps files tells: a map from names to bytes, and the names that it was asked for, in order. And
--- what its calls do to them.
+-- What an object that keeps files tells: a map from names to bytes, and the names that it was asked for, in order.
+-- And what its calls do to them.
 use Rattle.std.specs.Prelude.{◌≡◌, ℕ, List, [], ◌∷◌, ◌++◌, IfSome, IsSomeAnd, IsErrOf, MatchResult}
 use Rattle.std.specs.declared.option.Option.{Option}
 use Rattle.std.specs.declared.option.Option.TheVariants.{Some, None}
@@ -16,8 +16,7 @@ Store = List ℕ → Option (List ℕ)
 -- the count of faults, by what a call answered
 abbrev pub FileCounts : {T : Type 0} → ℕ → ℕ → Result T FileFault → Type 0
 FileCounts before now result =
-    MatchResult result (λ _. now ≡ before)
-    (λ e. elim e [ file.Failed ↦ Rises before now | file.NoMemory ↦ now ≡ before ])
+    MatchResult result (λ _. now ≡ before) (λ e. elim e [ file.Failed ↦ Rises before now | file.NoMemory ↦ now ≡ before ])
 
 -- A read changes no file, and gives the bytes of the name.
 abbrev pub Reads : Option Store → Option Store → List ℕ → Result Held FileFault → Type 0

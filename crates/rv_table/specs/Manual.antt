@@ -1,6 +1,6 @@
--- The instruction table as the manual prints it: RV32I, Zicsr, MRET and WFI, each with the mask of its fixed bits,
--- their values, and its format. Source: the RISC-V Instruction Set Manual, Volume I, the listing of instructions of
--- RV32I and Zicsr; MRET and WFI are of Volume II.
+-- The instruction table in the manual's order: RV32I, Zicsr, MRET and WFI, each with its format, the mask of its fixed
+-- bits, and their values. Source: the RISC-V Instruction Set Manual, Volume I, the listing of instructions of RV32I and
+-- Zicsr; MRET and WFI are of Volume II.
 use Rattle.std.specs.Prelude.{ℕ, List, [], ◌∷◌}
 use Rattle.rv_table.specs.declared.row.Row.{Row}
 use Rattle.rv_table.specs.declared.row.Name.{Name}
