@@ -16,7 +16,8 @@ Store = List ℕ → Option (List ℕ)
 -- the count of faults, by what a call answered
 abbrev pub FileCounts : {T : Type 0} → ℕ → ℕ → Result T FileFault → Type 0
 FileCounts before now result =
-    MatchResult result (λ _. now ≡ before) (λ e. elim e [ file.Failed ↦ Rises before now | file.NoMemory ↦ now ≡ before ])
+    MatchResult result (λ _. now ≡ before)
+    (λ e. elim e [ file.Failed ↦ Rises before now | file.NoMemory ↦ now ≡ before ])
 
 -- A read changes no file, and gives the bytes of the name.
 abbrev pub Reads : Option Store → Option Store → List ℕ → Result Held FileFault → Type 0

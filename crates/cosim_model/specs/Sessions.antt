@@ -60,8 +60,7 @@ both theirs ours =
     record {
       base = theirs.base && ours.base;
       enables = theirs.enables && ours.enables;
-      posted = theirs.posted
-          && ours.posted;
+      posted = theirs.posted && ours.posted;
     }
 
 abbrev pub at_machine : Role → Bool
