@@ -1,5 +1,5 @@
 -- One turn of a device end: it sends its hello first, and then takes a packet, acts and settles.
-use Rattle.std.specs.Prelude.{ℕ, zero, suc, ◌+◌, ◌-◌, ◌*◌, ◌/◌, ◌%◌, Bool, true, false, ◌&&◌, ◌||◌, if◌then◌else◌}
+use Rattle.std.specs.Prelude.{ℕ, zero, suc, Bool, true, false, ◌&&◌, ◌||◌, if◌then◌else◌}
 use Rattle.std.specs.Prelude.{nat_eq, nat_le, List, [], ◌∷◌, ◌++◌, take, replicate, map, Option, Some, None, is_none}
 use Rattle.std.specs.Prelude.{option_map, Result, Ok, Err}
 use Rattle.process_network.specs.PacketStar.{LeafOutlook}

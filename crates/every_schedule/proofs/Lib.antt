@@ -42,3 +42,4 @@ pub mod Room
 pub mod OverLinks
 pub mod Places
 pub mod Talks
+pub mod Found

@@ -152,7 +152,7 @@ credit_set [] p q q' e = absurd (none-some q e)
 credit_set (x ∷ qs) zero q q' e = let f : worth x ≡ worth q = ap worth (same_Some x q e) in omega arith
 credit_set (x ∷ qs) (suc p) q q' e = let f = credit_set qs p q q' e in omega arith
 
-abbrev AllMachine : List PortEnd → Type 0
+abbrev pub AllMachine : List PortEnd → Type 0
 AllMachine [] = Unit {0}
 AllMachine (q ∷ qs) = (q.session.role ≡ Machine) × AllMachine qs
 
@@ -192,7 +192,7 @@ first_within (b ∷ bs) p e = by b (first_true bs) refl e (λ i f. first_within 
     by false (Some i) f g rest = let h : suc i ≡ p = same_Some (suc i) p g in let l = rest i f in omega arith
 
 module _ {M S F : Type 0} (k : MasterModel M) (d : DeviceModel S) (codec : Codec F) (plan : Plan) (n : ℕ) where
-  abbrev H : Type 0
+  abbrev pub H : Type 0
   H = MachineEnd M F
 
   -- What is left to do: the phases of each tick that is left, and of this one; and the packets that may come in this wait.
@@ -221,7 +221,7 @@ module _ {M S F : Type 0} (k : MasterModel M) (d : DeviceModel S) (codec : Codec
   left h = left_by h.fault (suc (times (rank h) (suc (16383 * n)) + credit h.ports))
 
   -- What holds in each state that a run comes to.
-  abbrev Place : ℕ → Bool → Phase → Type 0
+  abbrev pub Place : ℕ → Bool → Phase → Type 0
   Place tick marked (Greet p) = (p < n) × (marked ≡ false)
   Place tick marked (Meet p) = (p < n) × (marked ≡ false)
   Place tick marked Run = marked ≡ true → tick < plan.units
@@ -230,12 +230,12 @@ module _ {M S F : Type 0} (k : MasterModel M) (d : DeviceModel S) (codec : Codec
   Place tick marked (AnswerFrom p a) = (p < n) × (tick < plan.units)
   Place tick marked Done = Unit {0}
 
-  record Holds (h : H) : Type 0 where
-    size : length h.ports ≡ n
-    roles : AllMachine h.ports
-    plan_is : h.plan ≡ plan
-    tick_is : h.tick ≤ plan.units
-    place : Place h.tick h.marked h.phase
+  pub record Holds (h : H) : Type 0 where
+    pub size : length h.ports ≡ n
+    pub roles : AllMachine h.ports
+    pub plan_is : h.plan ≡ plan
+    pub tick_is : h.tick ≤ plan.units
+    pub place : Place h.tick h.marked h.phase
 
   abbrev Onward : H → H → Type 0
   Onward h next = Holds next × (left next < left h)
@@ -580,7 +580,7 @@ module _ {M S F : Type 0} (k : MasterModel M) (d : DeviceModel S) (codec : Codec
       by None ok = phase_goes h holds ok h.phase refl
       by (Some f) bad = tt
 
-  waits_sound : (h : H) (p : ℕ) → machine_outlook k h ≡ HubWaits p → h.fault ≡ None
+  pub waits_sound : (h : H) (p : ℕ) → machine_outlook k h ≡ HubWaits p → h.fault ≡ None
   waits_sound h p w = by h.fault refl
     where
       not_waits : (p : ℕ) → ◌≡◌ {A = HubOutlook H (Decoded F)} HubHalts (HubWaits p) → ⊥
@@ -617,7 +617,7 @@ module _ {M S F : Type 0} (k : MasterModel M) (d : DeviceModel S) (codec : Codec
       by (HubWaits p) w t = took p _ w t
       by HubHalts w t = absurd (none-some r t)
 
-  run_holds : (m : M) (x : Streams) (turns : ℕ) (h : HubEnd H) (o : Streams) → IsHubRun (star_of (ends k d codec)) n (fresh_hub (machine_start F m n plan) n) x turns h o → Holds h.core
+  pub run_holds : (m : M) (x : Streams) (turns : ℕ) (h : HubEnd H) (o : Streams) → IsHubRun (star_of (ends k d codec)) n (fresh_hub (machine_start F m n plan) n) x turns h o → Holds h.core
   run_holds m x zero h o run = subst (λ (h : HubEnd H). Holds h.core) (sym run.0) (fresh_holds m)
   run_holds m x (suc turns) h o run = turn_holds x run.0 (h, run.2) (run_holds m x turns run.0 run.1 run.3) run.4
 

@@ -5,15 +5,16 @@
 //! empty body.
 #![tactic(auto)]
 
-ghost use Rattle.std.specs.Prelude.{◌≡◌, ℕ, List, ◌++◌, get_or};
+ghost use Rattle.std.specs.Prelude.{◌≡◌, ℕ, ◌≤◌, List, ◌++◌, get_or, Option, IsSome};
 ghost use Rattle.process_network.specs.Network.{Streams};
 ghost use Rattle.process_network.specs.StarTalk.{IsHubRun, IsLeafRun};
 ghost use Rattle.process_network.specs.TellingLinks.{IsTelling, IsFirstFixedHub};
 ghost use Rattle.process_network.specs.PacketStar.{HubEnd, LeafEnd, star_of, fresh_hub, fresh_leaf};
 ghost use Rattle.cosim_model.specs.declared.values.Plan.{Plan};
 ghost use Rattle.cosim_model.specs.Parts.{DeviceModel, MasterModel, IsDevice, IsMaster};
-ghost use Rattle.cosim_model.specs.Packets.{Codec, IsCodec};
+ghost use Rattle.cosim_model.specs.Packets.{Decoded, Codec, IsCodec};
 ghost use Rattle.cosim_model.specs.Streams.{IsMalformedAt, HasTaken, kept_cause};
+ghost use Rattle.ends_model.specs.Answers.{machine_answer};
 ghost use Rattle.ends_model.specs.DeviceTurn.{DeviceEnd};
 ghost use Rattle.ends_model.specs.MachineTurn.{MachineEnd};
 ghost use Rattle.ends_model.specs.World.{Side, Fit, ends, device_start, machine_start};
@@ -102,4 +103,13 @@ pub fn talk_ends<M: System>()
     ensures { (plan : Plan) (m : M.Master) (ports : ℕ) (said : ℕ → List ℕ → List ℕ) → IsTelling said
         → (rounds : ℕ) × (x : Streams) × (turns : ℕ) × (h : HubEnd (MachineEnd M.Master M.Cause)) × (sent : Streams)
         × IsFirstFixedHub (star_of (ends M.master M.device M.codec)) ports (fresh_hub (machine_start M.Cause m ports plan) ports) said rounds x turns h sent }
+{}
+
+/// After any run of a machine end over any received bytes, its next turn has an answer: each port that its phase or its master names is
+/// there, and where it serves, a request is held.
+pub fn turns_answer<M: System>()
+    ensures { (plan : Plan) (m : M.Master) (ports : ℕ) → M.master.reach m ≤ ports
+        → (x : Streams) (turns : ℕ) (h : HubEnd (MachineEnd M.Master M.Cause)) (sent : Streams)
+        → IsHubRun (star_of (ends M.master M.device M.codec)) ports (fresh_hub (machine_start M.Cause m ports plan) ports) x turns h sent
+        → (whole : ℕ → Option (Decoded M.Cause)) → IsSome (machine_answer M.master h.core whole) }
 {}
