@@ -180,9 +180,13 @@ size-body (Interrupt time vector line val) =
     )
 size-body (Sync time) = omega (arith, length-be time 8)
 
+-- What is written for a value has as many bytes as its fields need.
+pub length-packet_bytes : (v : Packet) → length (packet_bytes v) ≡ body_size v.body
+length-packet_bytes v = length-packet (cmd_of v.body) (length (body_bytes v.body)) v.id v.flags v.dev (body_bytes v.body) ∙ size-body v.body
+
 pub codec-laws : IsCodec (record { write = packet_bytes; first = first })
 codec-laws = record {
   reads_back = λ v rest is. first-spelled v (packet_bytes v) rest (Spells-writable v is);
-  sizes = λ v is. length-packet (cmd_of v.body) (length (body_bytes v.body)) v.id v.flags v.dev (body_bytes v.body) ∙ size-body v.body;
+  sizes = λ v is. length-packet_bytes v;
   decided = first-decided;
 }

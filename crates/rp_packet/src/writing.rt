@@ -5,7 +5,8 @@ ghost use Rattle.rp_control.specs.Controls.{hello_bytes};
 ghost use Rattle.rp_busaccess.specs.Bits.{fields_of};
 ghost use Rattle.rp_busaccess.specs.Writing.{bus_bytes, write_fault};
 ghost use Rattle.rp_busaccess.specs.declared.fault.WriteFault.TheVariants.{TooLong};
-ghost use Rattle.rp_packet.specs.Values.{value_of};
+ghost use Rattle.cosim_model.specs.Packets.Body.{Read as ReadBody, Write as WriteBody};
+ghost use Rattle.rp_packet.specs.Values.{tagged, value_of};
 ghost use Rattle.rp_packet.specs.Spelling.{packet_bytes, packet_fault};
 ghost use Rattle.rp_packet.specs.Writing.{Writes};
 
@@ -25,25 +26,27 @@ impl Packet {
             Packet::Nop(tag) => put_small(out, Command::Nop, *tag, &[]),
             Packet::Hello(tag, hello) => put_hello(out, *tag, hello),
             Packet::Cfg(tag, cfg) => put_small(out, Command::Cfg, *tag, &cfg.write()),
-            Packet::Read(tag, access) => put_bus(
-                out,
-                Command::Read,
-                *tag,
-                access,
-                is_response(*tag),
-            ),
-            Packet::Write(tag, access) => put_bus(
-                out,
-                Command::Write,
-                *tag,
-                access,
-                !is_response(*tag),
-            ),
+            Packet::Read(tag, access) => Packet::write_read(*tag, access, out),
+            Packet::Write(tag, access) => Packet::write_write(*tag, access, out),
             Packet::Interrupt(tag, interrupt) => {
                 put_small(out, Command::Interrupt, *tag, &interrupt.write())
             }
             Packet::Sync(tag, sync) => put_small(out, Command::Sync, *tag, &sync.write()),
         }
+    }
+
+    /// Appends the canonical spelling of a read with this tag and body, as [`Packet::write_into`] does.
+    pub fn write_read(tag: Tag, access: &BusAccess, out: &mut Octets) -> Result<(), WriteFault>
+        ensures { Writes (packet_bytes (tagged tag (ReadBody (fields_of access.now)))) (packet_fault (tagged tag (ReadBody (fields_of access.now)))) out.old out.new result }
+    {
+        put_bus(out, Command::Read, tag, access, is_response(tag))
+    }
+
+    /// Appends the canonical spelling of a write with this tag and body, as [`Packet::write_into`] does.
+    pub fn write_write(tag: Tag, access: &BusAccess, out: &mut Octets) -> Result<(), WriteFault>
+        ensures { Writes (packet_bytes (tagged tag (WriteBody (fields_of access.now)))) (packet_fault (tagged tag (WriteBody (fields_of access.now)))) out.old out.new result }
+    {
+        put_bus(out, Command::Write, tag, access, !is_response(tag))
     }
 }
 
