@@ -1,3 +1,4 @@
 pub mod Puts
 pub mod LaneBytes
 pub mod Requests
+pub mod Values

@@ -1,4 +1,4 @@
-ghost use Rattle.std.specs.Prelude.{◌≡◌, ◌+◌, ◌*◌, ◌≤◌, ◌++◌, ℕ, List, [], None, false, IsOk, IsSome, length, drop, min, OnOk, OnErr, IfErr};
+ghost use Rattle.std.specs.Prelude.{◌≡◌, ◌+◌, ◌*◌, ◌≤◌, ◌++◌, ℕ, List, [], None, false, IsOk, IsSome, length, drop, min, OnOk, OnErr, IfOk, IfErr, IfSome};
 
 use crate::fault::{FrameFault, Truncated};
 use crate::front::{behind, front_of, is_whole};
@@ -37,7 +37,7 @@ impl Model for Framer {
 impl Framer {
     ghost use Rattle.cosim_model.specs.Packets.{Packet as PacketValue};
     ghost use Rattle.rp_header.specs.Numbers.{AreBytes};
-    ghost use Rattle.rp_framing.specs.Framing.{Frames, Feeds, Nexts, WaitsForMore, is_ready};
+    ghost use Rattle.rp_framing.specs.Framing.{Frames, Feeds, Fronts, Nexts, WaitsForMore, after_skip, is_ready};
     ghost use Rattle.rp_framing.specs.Cuts.{Taken, NextOf, StaysAfter, GrowsBy, EndsWith};
 
     /// It takes no memory.
@@ -124,30 +124,53 @@ impl Framer {
         }
     }
 
+    /// The packet that stands whole at the front of what is held, and its size in bytes. It stays there. A fault is told and
+    /// not kept.
+    pub fn front(&self) -> Result<Option<(Packet, usize)>, FrameFault>
+        requires { self.now.kept ≡ None }
+        ensures front { Fronts self.now result }
+        ensures bytes { AreBytes self.now.held }
+        ensures within { IfOk result (λ front. IfSome front (λ p. p.1 ≤ length self.now.held)) }
+    {
+        match front_of(self.alloc, behind(self.bytes.as_slice(), self.begin)) {
+            Ok(front) => Ok(front),
+            Err(ReadFault::Malformed(fault)) => Err(FrameFault::Malformed(PacketFault {
+                start: self.taken,
+                place: fault.place,
+                cause: fault.cause,
+            })),
+            Err(ReadFault::NoMemory) => Err(FrameFault::NoMemory),
+        }
+    }
+
+    /// Takes away the packet at the front, which has so many bytes. It takes no memory.
+    pub fn skip(&mut self, size: usize)
+        requires kept { self.old.kept ≡ None }
+        requires within { size ≤ length self.old.held }
+        ensures { self.new ≡ after_skip size self.old }
+    {
+        let left = self.bytes.len() - self.begin - size;
+        self.begin = self.bytes.len() - left;
+        self.taken = self.taken.saturating_add(size as u64);
+    }
+
     /// Takes the packet that stands whole at the front of what is held. A fault there is kept.
     fn take_front(&mut self) -> Result<Option<Packet>, FrameFault>
         requires { self.old.kept ≡ None }
         ensures nexts { Nexts self.old self.new result }
         ensures bytes { AreBytes self.old.held }
     {
-        let held = behind(self.bytes.as_slice(), self.begin);
-        match front_of(self.alloc, held) {
+        match self.front() {
             Ok(None) => Ok(None),
             Ok(Some((packet, size))) => {
-                self.begin += size;
-                self.taken = self.taken.saturating_add(size as u64);
+                self.skip(size);
                 Ok(Some(packet))
             }
-            Err(ReadFault::Malformed(fault)) => {
-                let fault = PacketFault {
-                    start: self.taken,
-                    place: fault.place,
-                    cause: fault.cause,
-                };
+            Err(FrameFault::Malformed(fault)) => {
                 self.kept = Some(fault);
                 Err(FrameFault::Malformed(fault))
             }
-            Err(ReadFault::NoMemory) => Err(FrameFault::NoMemory),
+            Err(FrameFault::NoMemory) => Err(FrameFault::NoMemory),
         }
     }
 

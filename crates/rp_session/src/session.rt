@@ -142,6 +142,27 @@ impl Session {
         self.common
     }
 
+    /// Whether the own hello was sent.
+    pub fn has_greeted(&self) -> bool
+        ensures { result ≡ self.now.hello_went }
+    {
+        self.hello_went
+    }
+
+    /// Whether the peer's hello came.
+    pub fn has_met(&self) -> bool
+        ensures { result ≡ self.now.hello_came }
+    {
+        self.hello_came
+    }
+
+    /// What the session offers.
+    pub fn offer(&self) -> Caps
+        ensures { result ≡ self.now.offers }
+    {
+        self.offers
+    }
+
     /// The own hello. It takes the number that `make` was given.
     pub fn hello(&mut self, alloc: Global) -> Result<Packet, NoMemory>
         requires { self.old.hello_went ≡ false }
