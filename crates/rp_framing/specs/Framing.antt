@@ -61,12 +61,14 @@ IsFront held (Err read.NoMemory) = Unit {0}
 abbrev pub Fronts : Frames → Result (Option (Packet × ℕ)) FrameFault → Type 0
 Fronts f (Ok None) = first f.held ≡ None
 Fronts f (Ok (Some p)) = (first f.held ≡ Some (Valid (value_of p.0), p.1)) × Spells (value_of p.0) (take p.1 f.held)
-Fronts f (Err (Malformed fault)) = (fault ≡ fault_at f.taken fault.cause) × (size : ℕ) × (first f.held ≡ Some (MalformedPacket fault.cause, size))
+Fronts f (Err (Malformed fault)) = (fault ≡ fault_at f.taken fault.cause) × (size : ℕ)
+    × (first f.held ≡ Some (MalformedPacket fault.cause, size))
 Fronts f (Err NoMemory) = Unit {0}
 
 -- the packet at the front, of so many bytes, was taken
 abbrev pub after_skip : ℕ → Frames → Frames
-after_skip size f = record { held = drop size f.held; taken = counted (f.taken + size); room = f.room + size; kept = None }
+after_skip size f =
+    record { held = drop size f.held; taken = counted (f.taken + size); room = f.room + size; kept = None }
 
 -- The next packet that stands whole at the front of what is held, or why there is none. After a fault it is answered
 -- again.
