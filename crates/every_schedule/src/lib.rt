@@ -1,7 +1,7 @@
 //! The two ends of a link and the machine that calls its devices directly: whatever the order of turns and deliveries, the ends do
 //! what the direct machine does.
 //!
-//! What the ends are stands in the definitions of `cosim_model`. Nothing here runs: the theorem is the contract of a function with an
+//! What the ends are stands in the definitions of `ends_model`, over those of `cosim_model`. Nothing here runs: the theorem is the contract of a function with an
 //! empty body.
 #![tactic(auto)]
 
@@ -59,9 +59,8 @@ pub trait System {
 /// `schedules`: what was sent and called is a beginning of the traffic and the calls of the direct machine, no end has a fault, some
 /// step is effective unless all is done, and when the machine end is done everything is equal and nothing is in flight. `room`:
 /// whenever the machine end sends on a port, at most one packet of its device end isn't taken yet, one that can be written, of at most
-/// 208 bytes. `bounded`: how
-/// many steps can be effective. `over_links`: the machine end alone, over links that give what the device ends would send, ends done and
-/// has sent the traffic.
+/// 208 bytes. `bounded`: how many steps can be effective. `over_links`: the machine end alone, over links that give what the device
+/// ends would send, ends done and has sent the traffic.
 pub fn every_schedule<M: System>()
     ensures schedules { (plan : Plan) (m : M.Master) (xs : List (Side × M.Device))
         → Fit M.master M.device plan m xs
