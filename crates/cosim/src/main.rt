@@ -3,7 +3,7 @@
 
 use cos_base::{DiskFiles, StdSink, UnixNet};
 use cosim_cli::{cosim, misspelled};
-use cosim_status::{Status, tell_status};
+use statuses::{Status, tell_status};
 use std::env::{Env, FillError};
 use std::process::ExitCode;
 use std::str;

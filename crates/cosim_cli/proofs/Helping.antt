@@ -1,17 +1,32 @@
 -- How the help text that is put keeps the promise of `help`.
 use Rattle.std.proofs.Common.{[], refl, sym, ◌∙◌}
-use Rattle.cosim_status.specs.declared.status.Status.{Status}
-use Rattle.cosim_status.specs.Outcomes.{IsUntouched}
-use Rattle.cosim_status.specs.Steps.{IsPrinted, IsRoomFor}
-use Rattle.cosim_status.proofs.Commands.{meets-each, untouched-stands, printed-blames, printed-ends, printed-meets}
+use Rattle.std.specs.declared.result.Result.{Result}
+use Rattle.std.specs.declared.result.Result.TheVariants.{Ok, Err}
+use Rattle.outcomes.specs.declared.failures.OutFailure.{OutFailure}
+use Rattle.outcomes.specs.declared.object.Object.TheVariants as object
+use Rattle.outcomes.specs.Seen.{IsUntouched}
+use Rattle.outcomes.specs.Steps.{IsPrinted, IsRoomFor}
+use Rattle.outcomes.proofs.Commands.{untouched-stands}
+use Rattle.outcomes.proofs.Performing.{put_result, text-performs}
+use Rattle.statuses.specs.declared.status.Status.{Status}
+use Rattle.statuses.specs.declared.status.Status.TheVariants as status
 use Rattle.cosim_cli.specs.Help.{Helps, help_text}
-use Rattle.cosim_cli.specs.Promises.{Around, Performs}
+use Rattle.cosim_cli.specs.Promises.{Around, Performed, none_refused}
 
-pub helps : {L : Type 0} (a : Around L) (s : Status) → IsUntouched a.files → IsUntouched a.net → IsPrinted a.out help_text s → (a.sound_out → IsRoomFor a.room help_text s) → Performs Helps [] a s
-helps a s files net printed fits = record {
+abbrev pub help_status : Result Unit OutFailure → Status
+help_status (Ok u) = status.Done
+help_status (Err e) = status.Outside object.Out e.count
+
+pub helps : {L : Type 0} (a : Around L) (r : Result Unit OutFailure) → IsUntouched a.files → IsUntouched a.net → IsPrinted a.out help_text r → (a.sound_out → IsRoomFor a.room help_text r) → Performed none_refused Helps a (help_status r)
+helps a (Ok u) files net printed fits = record {
+  result = Ok u;
+  performs = text-performs Helps a.files a.out (a.sound_files × a.sound_out) a.room help_text (Ok u) refl (untouched-stands a.files files) printed (λ sound. fits sound.1) (λ sound o p first then. first ∙ sym then);
+  status = refl;
   net = net;
-  blames = printed-blames a.files.before a.files.now a.out help_text s files.count printed;
-  ends = printed-ends Helps [] a.files a.out help_text s refl (untouched-stands a.files files) printed;
-  sound = λ _ sound. printed-meets Helps a.room a.out help_text s refl printed (fits sound);
-  complete = λ _ sound. meets-each Helps a.room s (λ o p first then. first ∙ sym then) (printed-meets Helps a.room a.out help_text s refl printed (fits sound));
+}
+helps a (Err e) files net printed fits = record {
+  result = put_result (Err e);
+  performs = text-performs Helps a.files a.out (a.sound_files × a.sound_out) a.room help_text (Err e) refl (untouched-stands a.files files) printed (λ sound. fits sound.1) (λ sound o p first then. first ∙ sym then);
+  status = refl;
+  net = net;
 }

@@ -1,18 +1,66 @@
 -- A command that keeps its promise: the program keeps that of its words.
-use Rattle.std.proofs.Common.{ℕ, ◌≡◌, List}
-use Rattle.cosim_status.specs.declared.status.Status.{Status}
-use Rattle.cosim_status.specs.declared.status.Status.TheVariants as status
-use Rattle.cosim_cli.specs.Promises.{Around, Keeps, Promises}
+use Rattle.std.proofs.Common.{ℕ, ◌≡◌, List, sym, ◌∙◌}
+use Rattle.std.specs.declared.result.Result.{Result}
+use Rattle.std.specs.declared.result.Result.TheVariants.{Ok, Err}
+use Rattle.outcomes.specs.declared.stop.Stop.{Stop}
+use Rattle.outcomes.specs.declared.stop.Stop.TheVariants.{Refused, Outside, NoMemory}
+use Rattle.statuses.specs.declared.status.Status.{Status}
+use Rattle.statuses.specs.declared.status.Status.TheVariants as status
+use Rattle.cosim_assembly.specs.declared.refusals.AsmRefusal.TheVariants as asm
+use Rattle.cosim_assembly.specs.declared.refusals.DisRefusal.TheVariants as dis
+use Rattle.cosim_inputs.specs.declared.refusals.InputsRefusal.TheVariants as inputs
+use Rattle.cosim_packets.specs.declared.refusals.PackRefusal.TheVariants as pack
+use Rattle.cosim_packets.specs.declared.refusals.ShowRefusal.TheVariants as show
+use Rattle.cosim_serve.specs.declared.refusal.DeviceRefusal.TheVariants as device
+use Rattle.cosim_cli.specs.Ended.{ended_status, show_refused, pack_refused, asm_refused, dis_refused, inputs_refused, device_refused}
+use Rattle.cosim_cli.specs.Promises.{Around, Keeps, Promises, none_refused}
 use Rattle.cosim_cli.specs.Words.{Command, Device, Show, Pack, Asm, Dis, Direct, Help, words_of, Uses}
 
+-- No refusal is told as Usage, and so no command ends by it.
+abbrev NeverUsage : {R : Type 0} → (R → Status) → Type 0
+NeverUsage {R} refused = (r : R) (index : ℕ) → status.Usage index ≡ refused r → ⊥
+
+show-never : NeverUsage show_refused
+show-never (show.Malformed fault) index same = cc (same)
+show-never (show.Truncated start held) index same = cc (same)
+
+pack-never : NeverUsage pack_refused
+pack-never (pack.Line number) index same = cc (same)
+
+asm-never : NeverUsage asm_refused
+asm-never (asm.Assembly number cause) index same = cc (same)
+
+dis-never : NeverUsage dis_refused
+dis-never (dis.Words len) index same = cc (same)
+
+inputs-never : NeverUsage inputs_refused
+inputs-never (inputs.Config fault) index same = cc (same)
+inputs-never inputs.ImageEmpty index same = cc (same)
+inputs-never (inputs.ImageTooLarge size got) index same = cc (same)
+inputs-never (inputs.Line number) index same = cc (same)
+inputs-never (inputs.UartInput port len) index same = cc (same)
+inputs-never (inputs.DiskImage port len) index same = cc (same)
+
+device-never : NeverUsage device_refused
+device-never (device.Peer port fault) index same = cc (same)
+
+none-never : NeverUsage none_refused
+none-never never index same = never
+
+ended-never : {R : Type 0} (refused : R → Status) → NeverUsage refused → (r : Result Unit (Stop R)) (index : ℕ) → status.Usage index ≡ ended_status refused r → ⊥
+ended-never refused never (Ok u) index same = cc (same)
+ended-never refused never (Err (Refused r)) index same = never r index same
+ended-never refused never (Err (Outside object count)) index same = cc (same)
+ended-never refused never (Err NoMemory) index same = cc (same)
+
 never-usage : {L : Type 0} (c : Command) (a : Around L) (index : ℕ) → Keeps c a (status.Usage index) → ⊥
-never-usage (Device socket) a index keeps = keeps.names
-never-usage (Show file) a index keeps = keeps.blames
-never-usage (Pack file) a index keeps = keeps.blames
-never-usage (Asm file out) a index keeps = keeps.blames
-never-usage (Dis file) a index keeps = keeps.blames
-never-usage (Direct config) a index keeps = keeps.blames
-never-usage Help a index keeps = keeps.blames
+never-usage (Device socket) a index keeps = ended-never device_refused device-never keeps.result index keeps.status
+never-usage (Show file) a index keeps = ended-never show_refused show-never keeps.result index keeps.status
+never-usage (Pack file) a index keeps = ended-never pack_refused pack-never keeps.result index keeps.status
+never-usage (Asm file out) a index keeps = ended-never asm_refused asm-never keeps.result index keeps.status
+never-usage (Dis file) a index keeps = ended-never dis_refused dis-never keeps.result index keeps.status
+never-usage (Direct config) a index keeps = ended-never inputs_refused inputs-never keeps.result index keeps.status
+never-usage Help a index keeps = ended-never none_refused none-never keeps.result index keeps.status
 
 pub kept-uses : {L : Type 0} (words : List (List ℕ)) (c : Command) (a : Around L) (s : Status) → words ≡ words_of c → Keeps c a s → Uses words s
 kept-uses words c a status.Done is keeps = (c, is)

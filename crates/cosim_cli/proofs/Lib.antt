@@ -1,6 +1,5 @@
-pub mod Completing
 pub mod Faulty
-pub mod Handing
 pub mod Helping
 pub mod Keeping
+pub mod Performing
 pub mod Reading

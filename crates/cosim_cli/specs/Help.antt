@@ -1,7 +1,7 @@
 -- The help text: a line for each command.
 use Rattle.std.specs.Prelude.{ℕ, ◌≡◌, List, [], ◌∷◌, codes}
 use Rattle.std.specs.List.{concat}
-use Rattle.cosim_status.specs.Outcomes.{Outcome, Prints}
+use Rattle.outcomes.specs.Outcomes.{Outcome, Works}
 
 abbrev pub help_text : List ℕ
 help_text = concat (
@@ -25,6 +25,6 @@ help_text = concat (
     ∷ codes "resume CONFIG FILE\n"
     ∷ [])
 
--- what `help` comes to
-abbrev pub Helps : Outcome → Type 0
-Helps o = o ≡ Prints help_text
+-- What `help` comes to. It refuses nothing.
+abbrev pub Helps : Outcome ⊥ → Type 0
+Helps o = o ≡ Works [] help_text

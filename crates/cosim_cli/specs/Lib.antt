@@ -1,7 +1,5 @@
-pub mod Causes
+pub mod Words
 pub mod Forms
 pub mod Help
-pub mod Names
+pub mod Ended
 pub mod Promises
-pub mod Talks
-pub mod Words

@@ -1,7 +1,7 @@
 -- The commands of the program, as lists of words, and at which word other words stop being one.
 use Rattle.std.specs.Prelude.{ℕ, ◌≡◌, ◌+◌, ◌≤◌, ◌⊎◌, List, [], ◌∷◌, ◌++◌, length, take, codes}
-use Rattle.cosim_status.specs.declared.status.Status.{Status}
-use Rattle.cosim_status.specs.declared.status.Status.TheVariants as status
+use Rattle.statuses.specs.declared.status.Status.{Status}
+use Rattle.statuses.specs.declared.status.Status.TheVariants as status
 use Rattle.cosim_cli.specs.declared.words.Command.{Command as Read}
 use Rattle.cosim_cli.specs.declared.words.Command.TheVariants as read
 

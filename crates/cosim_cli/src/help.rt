@@ -1,11 +1,11 @@
 // The command `help`.
 ghost use Rattle.std.specs.Prelude.{◌≡◌};
-ghost use Rattle.cosim_status.specs.Outcomes.{seen};
-ghost use Rattle.cosim_status.specs.Steps.{IsPrinted, IsRoomFor};
+ghost use Rattle.outcomes.specs.Seen.{seen};
+ghost use Rattle.outcomes.specs.Steps.{IsPrinted, IsRoomFor};
 ghost use Rattle.cosim_cli.specs.Help.{help_text};
 
 use cos_base::Sink;
-use cosim_status::{Status, put_text};
+use outcomes::{OutFailure, put_text};
 
 /// A line for each command.
 const HELP: &str = "\
@@ -30,7 +30,7 @@ resume CONFIG FILE
 ";
 
 /// Prints the help text.
-pub fn help<K: Sink>(out: &mut K) -> Status
+pub fn help<K: Sink>(out: &mut K) -> Result<(), OutFailure>
     ensures puts { IsPrinted (seen K.count K.told out.old out.new) help_text result }
     ensures is_sound { K.sound out.old → IsRoomFor (K.room out.old) help_text result }
 {

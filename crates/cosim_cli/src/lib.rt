@@ -1,9 +1,9 @@
 //! The program's work: its words are judged, its command is done over the objects of the outside, and its status is told in a line.
 #![tactic(auto)]
 
-mod device;
 mod help;
 mod laws;
+mod refusals;
 mod top;
 mod words;
 

@@ -1,19 +1,21 @@
 // The top call.
 ghost use Rattle.std.specs.Prelude.{map, string_bytes};
-ghost use Rattle.cosim_status.specs.Lines.{TellsStatus, line_of};
-ghost use Rattle.cosim_status.specs.Takes.{TakesAll};
-ghost use Rattle.cosim_status.specs.Outcomes.{seen};
+ghost use Rattle.outcomes.specs.Seen.{seen};
+ghost use Rattle.statuses.specs.Lines.{TellsStatus, line_of};
+ghost use Rattle.statuses.specs.Takes.{TakesAll};
 ghost use Rattle.cosim_cli.specs.Promises.{Keeps, Promises};
 ghost use Rattle.cosim_cli.specs.Words.{Uses, StopsAt, asked};
 
-use crate::device::device;
 use crate::help::help;
+use crate::refusals::status_of;
 use crate::words::{Command, command_of, stop_of};
 use cos_base::{Files, Network, Sink};
 use cosim_assembly::{asm, dis};
 use cosim_direct::direct;
 use cosim_packets::{pack, show};
-use cosim_status::{Status, tell_status};
+use cosim_serve::device;
+use outcomes::{Object, OutFailure};
+use statuses::{Status, tell_status};
 use std::alloc::Global;
 
 /// Does a command.
@@ -37,13 +39,19 @@ fn perform<F: Files, K: Sink, N: Network>(
     }) result }
 {
     match command {
-        Command::Device { socket } => device(alloc, socket, net),
-        Command::Show { file } => show(alloc, file, files, out),
-        Command::Pack { file } => pack(alloc, file, files, out),
-        Command::Asm { file, out: target } => asm(alloc, file, target, files),
-        Command::Dis { file } => dis(alloc, file, files, out),
-        Command::Direct { config } => direct(alloc, config, files, out),
-        Command::Help => help(out),
+        Command::Device { socket } => status_of(device(alloc, socket, net)),
+        Command::Show { file } => status_of(show(alloc, file, files, out)),
+        Command::Pack { file } => status_of(pack(alloc, file, files, out)),
+        Command::Asm { file, out: target } => status_of(asm(alloc, file, target, files)),
+        Command::Dis { file } => status_of(dis(alloc, file, files, out)),
+        Command::Direct { config } => status_of(direct(alloc, config, files, out)),
+        Command::Help => match help(out) {
+            Ok(()) => Status::Done,
+            Err(OutFailure { count }) => Status::Outside {
+                object: Object::Out,
+                count,
+            },
+        },
     }
 }
 
@@ -81,9 +89,9 @@ pub fn cosim<F: Files, K: Sink, E: Sink, N: Network>(
       count = N.Link.count;
     }) result }
     // Nothing goes to `err` at Done, and else the line of the status, or a beginning of it where `err` fails.
-    ensures line { TellsStatus (E.count err.old) (E.count err.new) (E.told err.old) (E.told err.new) result }
+    ensures line { TellsStatus (seen E.count E.told err.old err.new) result }
     // A sound `err` takes all of the line where it has room.
-    ensures whole { TakesAll (E.sound err.old) (E.room err.old) (E.told err.old) (E.told err.new) (line_of result) }
+    ensures takes { TakesAll (E.sound err.old) (E.room err.old) (seen E.count E.told err.old err.new) (line_of result) }
 {
     let status = match command_of(words) {
         Ok(command) => perform(alloc, command, files, out, net),
@@ -98,9 +106,9 @@ pub fn misspelled<E: Sink>(words: &[String], err: &mut E) -> Status
     // Usage with the index of the first faulty word.
     ensures usage { StopsAt (map string_bytes words.now) result }
     // The line of the status goes to `err`, or a beginning of it where `err` fails.
-    ensures line { TellsStatus (E.count err.old) (E.count err.new) (E.told err.old) (E.told err.new) result }
+    ensures line { TellsStatus (seen E.count E.told err.old err.new) result }
     // A sound `err` takes all of the line where it has room.
-    ensures whole { TakesAll (E.sound err.old) (E.room err.old) (E.told err.old) (E.told err.new) (line_of result) }
+    ensures takes { TakesAll (E.sound err.old) (E.room err.old) (seen E.count E.told err.old err.new) (line_of result) }
 {
     let index = stop_of(words);
     let status = Status::Usage { index };

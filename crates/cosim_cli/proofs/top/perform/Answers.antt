@@ -1,19 +1,50 @@
 use Rattle.std.proofs.Common.{refl}
 use Rattle.cosim_cli.proofs.Helping.{helps}
+use Rattle.cosim_cli.proofs.Performing.{performs-under}
 use Rattle.cosim_cli.proofs.top.perform.Goals as goal
+use Rattle.std.specs.declared.result.Result.TheVariants.{Ok, Err}
+
+pub returns-in-Device : goal.returns-in-Device
+returns-in-Device g c =
+    rw c.in-Device.is
+    (record {
+      result = c.device.result;
+      serves = c.device.ensures;
+      status = c.status_of.ensures;
+      files = record { count = refl; same = refl };
+      out = record { count = refl; same = refl };
+    })
+
+pub returns-in-Show : goal.returns-in-Show
+returns-in-Show g c =
+    rw c.in-Show.is (record { result = c.show.result; performs = c.show.ensures; status = c.status_of-in-Show.ensures; net = record { count = refl; same = refl } })
+
+pub returns-in-Pack : goal.returns-in-Pack
+returns-in-Pack g c =
+    rw c.in-Pack.is (record { result = c.pack.result; performs = c.pack.ensures; status = c.status_of-in-Pack.ensures; net = record { count = refl; same = refl } })
 
 pub returns-in-Asm : goal.returns-in-Asm
 returns-in-Asm g c =
     rw c.in-Asm.is
     (record {
+      result = c.asm.result;
+      performs = performs-under _ _ _ _ _ _ c.asm.result (λ sound. sound.0) (c.asm.ensures _ _ (record { count = refl; same = refl }));
+      status = c.status_of-in-Asm.ensures;
       net = record { count = refl; same = refl };
-      blames = c.asm.ensures.blames _;
-      ends = c.asm.ensures.ends _ (record { count = refl; same = refl });
-      sound = λ files out. c.asm.ensures.sound files _;
-      complete = λ files out. c.asm.ensures.complete files _;
     })
 
-pub returns-in-Help : goal.returns-in-Help
-returns-in-Help g c =
-    rw c.in-Help.is
-    (helps _ _ (record { count = refl; same = refl }) (record { count = refl; same = refl }) c.help.ensures.puts c.help.ensures.is_sound)
+pub returns-in-Dis : goal.returns-in-Dis
+returns-in-Dis g c =
+    rw c.in-Dis.is (record { result = c.dis.result; performs = c.dis.ensures; status = c.status_of-in-Dis.ensures; net = record { count = refl; same = refl } })
+
+pub returns-in-Direct : goal.returns-in-Direct
+returns-in-Direct g c =
+    rw c.in-Direct.is (record { result = c.direct.result; performs = c.direct.ensures; status = c.status_of-in-Direct.ensures; net = record { count = refl; same = refl } })
+
+pub returns-in-Help-Ok : goal.returns-in-Help-Ok
+returns-in-Help-Ok g c =
+    rw c.in-Help.is (helps _ (Ok tt) (record { count = refl; same = refl }) (record { count = refl; same = refl }) c.in-Help-Ok.ensures.puts c.in-Help-Ok.ensures.is_sound)
+
+pub returns-in-Help-Err : goal.returns-in-Help-Err
+returns-in-Help-Err g c =
+    rw c.in-Help.is (helps _ (Err c.in-Help-Err.field-0) (record { count = refl; same = refl }) (record { count = refl; same = refl }) c.in-Help-Err.ensures.puts c.in-Help-Err.ensures.is_sound)

@@ -1,6 +1,0 @@
-use Rattle.std.proofs.Common.{refl}
-use Rattle.cosim_status.proofs.Taking.{put-line}
-use Rattle.cosim_status.proofs.lines.put_key.Goals as goal
-
-pub returns : goal.returns
-returns g c = put-line _ _ _ _ _ _ _ _ (rw (c.table_text-table.ensures) refl) c.put_all.ensures

@@ -1,5 +1,0 @@
-pub mod Lines
-pub mod Outcomes
-pub mod Statuses
-pub mod Steps
-pub mod Takes

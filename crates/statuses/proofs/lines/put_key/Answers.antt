@@ -1,0 +1,6 @@
+use Rattle.std.proofs.Common.{refl}
+use Rattle.statuses.proofs.Taking.{put-line}
+use Rattle.statuses.proofs.lines.put_key.Goals as goal
+
+pub returns : goal.returns
+returns g c = put-line _ _ _ _ _ _ _ _ (rw (c.table_name-table.ensures) refl) c.put_all.ensures
