@@ -13,7 +13,7 @@ use Rattle.end_device.specs.declared.fault.EndFault.TheVariants as fault
 use Rattle.cosim_model.specs.declared.values.Caps.{Caps}
 use Rattle.end_device.specs.Turns.{out_device}
 use Rattle.end_device.specs.Talk.{TalkEnds, talk, ends, ByTalk, IsByTalk}
-use Rattle.end_device.specs.TalkLaws.{talk-once, talk-below}
+use Rattle.byte_streams.proofs.Talks.{talk-once, talk-below}
 use Rattle.end_device.proofs.TurnLaws.{out-grows}
 use Rattle.end_device.specs.Serving.{ServeCounts, NotLink}
 use Rattle.outcomes.specs.declared.stop.Stop.TheVariants.{Refused, Outside, NoMemory}
