@@ -21,7 +21,8 @@ use Rattle.cosim_cli.specs.Ended.{ended_status, show_refused, pack_refused, asm_
 use Rattle.cosim_cli.specs.Help.{Helps}
 use Rattle.cosim_cli.specs.Words.{Command, Device, Show, Pack, Asm, Dis, Direct, Help, words_of}
 
--- what is around a call: its objects before and after it, whether they are sound before it, the room of `out`, and what the links of the network tell and count
+-- what is around a call: its objects before and after it, whether they are sound before it, the room of `out`, and what
+-- the links of the network tell and count
 pub record Around (L : Type 0) : Type 1 where
   pub files : Seen Store
   pub out : Seen (List ℕ)
@@ -34,13 +35,15 @@ pub record Around (L : Type 0) : Type 1 where
   pub count : L → ℕ
 
 -- A command over files ended by what it comes to, the status is that of how it ended, and the network is untouched.
-pub record Performed {L R : Type 0} (refused : R → Status) (Comes : Outcome R → Type 0) (a : Around L) (s : Status) : Type 0 where
+pub record Performed {L R : Type 0} (refused : R → Status) (Comes : Outcome R → Type 0) (a : Around L) (s : Status)
+    : Type 0 where
   pub result : Result Unit (Stop R)
   pub performs : Performs Comes a.files a.out (a.sound_files × a.sound_out) a.room result
   pub status : s ≡ ended_status refused result
   pub net : IsUntouched a.net
 
--- A null device served the first link that was to come, the status is that of how it ended, and the files and `out` are untouched.
+-- A null device served the first link that was to come, the status is that of how it ended, and the files and `out` are
+-- untouched.
 pub record Served {L : Type 0} (socket : List ℕ) (a : Around L) (s : Status) : Type 0 where
   pub result : Ended
   pub serves : Serves a.told a.count a.sound_net socket a.net result

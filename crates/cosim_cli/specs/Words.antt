@@ -41,7 +41,8 @@ IsCommand words = (c : Command) × (words ≡ words_of c)
 abbrev pub Begins : List (List ℕ) → Type 0
 Begins words = (more : List (List ℕ)) × IsCommand (words ++ more)
 
--- The words are no command, and this is the first index such that no command begins with the words up to and with it, or their number where a command begins with them all.
+-- The words are no command, and this is the first index such that no command begins with the words up to and with it,
+-- or their number where a command begins with them all.
 pub record IsFaulty (words : List (List ℕ)) (index : ℕ) : Type 0 where
   pub no_command : IsCommand words → ⊥
   pub before : Begins (take index words)
@@ -60,7 +61,8 @@ Uses words status.NoMemory = IsCommand words
 
 -- Words before one that isn't UTF-8 stop being a command at this index, or at that word.
 abbrev pub StopsAt : List (List ℕ) → Status → Type 0
-StopsAt words (status.Usage index) = Begins (take index words) × ((Begins (take (index + 1) words) → ⊥) ⊎ (index ≡ length words))
+StopsAt words (status.Usage index) = Begins (take index words)
+    × ((Begins (take (index + 1) words) → ⊥) ⊎ (index ≡ length words))
 StopsAt words status.Done = ⊥
 StopsAt words (status.Config e) = ⊥
 StopsAt words (status.Input e) = ⊥

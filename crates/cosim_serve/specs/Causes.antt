@@ -15,10 +15,12 @@ abbrev pub IsHanded : {L : Type 0} → Option (Coming L) → L → Type 0
 IsHanded None l = Unit {0}
 IsHanded (Some net) l = (rest : List _) × (net.coming ≡ l ∷ rest)
 
--- The network is blamed only where its count rose in this call, up to the count that is shown; a link only where its count rose above the one with which it was handed out. Otherwise the network's count stands.
+-- The network is blamed only where its count rose in this call, up to the count that is shown; a link only where its
+-- count rose above the one with which it was handed out. Otherwise the network's count stands.
 abbrev pub NetBlames : {L : Type 0} → (L → ℕ) → Seen (Coming L) → Ended → Type 0
 NetBlames count net (Err (Outside object.Net n)) = IsBlamed net n
-NetBlames {L} count net (Err (Outside (object.Link port) n)) = CountStands net × (port ≡ 0) × (l : L) × IsHanded net.old l × Rose (count l) n
+NetBlames {L} count net (Err (Outside (object.Link port) n)) = CountStands net × (port ≡ 0) × (l : L)
+    × IsHanded net.old l × Rose (count l) n
 NetBlames count net (Ok u) = CountStands net
 NetBlames count net (Err (Refused r)) = CountStands net
 NetBlames count net (Err NoMemory) = CountStands net

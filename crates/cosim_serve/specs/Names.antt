@@ -1,4 +1,5 @@
--- What the names of a network grew by at every exit: a beginning of the command's list of names, which for `device` is its socket.
+-- What the names of a network grew by at every exit: a beginning of the command's list of names, which for `device` is
+-- its socket.
 use Rattle.std.specs.Prelude.{ℕ, ◌≡◌, ◌⊎◌, List, [], ◌∷◌, ◌++◌, IfSome}
 use Rattle.std.specs.declared.option.Option.{Option}
 use Rattle.std.specs.declared.option.Option.TheVariants.{Some, None}

@@ -9,7 +9,8 @@ use Rattle.cosim_serve.specs.Names.{DeviceNames}
 use Rattle.cosim_serve.specs.Talks.{Ended, TalksFirst, Completes}
 
 -- By the network before the call and after it, whether it is sound, and what its links tell and count.
-pub record Serves {L : Type 0} (told : L → Option Wire) (count : L → ℕ) (is_sound : Type 0) (socket : List ℕ) (net : Seen (Coming L)) (r : Ended) : Type 0 where
+pub record Serves {L : Type 0} (told : L → Option Wire) (count : L → ℕ) (is_sound : Type 0) (socket : List ℕ)
+    (net : Seen (Coming L)) (r : Ended) : Type 0 where
   -- it ends as Talk does with that link
   pub talks : TalksFirst told net.old r
   -- the network or the link is blamed only where its count rose

@@ -34,7 +34,8 @@ OfPeer (fault.Truncated start held) = Unit {0}
 OfPeer (fault.Unbuilt start) = Unit {0}
 OfPeer (fault.TooMuch taken) = Unit {0}
 
--- It ends as Talk does with a link that gives this for any bytes sent: well where Talk ends cleanly, refused where it ends in that fault.
+-- It ends as Talk does with a link that gives this for any bytes sent: well where Talk ends cleanly, refused where it
+-- ends in that fault.
 abbrev pub ResultTalks : (List ℕ → List ℕ) → Ended → Type 0
 ResultTalks said (Ok u) = ByTalk offered said (Ok tt)
 ResultTalks said (Err (Refused (Peer port f))) = (port ≡ 0) × OfPeer f × ByTalk offered said (Err f)
@@ -53,7 +54,8 @@ TalksFirst told (Some net) r = ForFirst net.coming (λ l. IfSome (told l) (λ w.
 
 -- Talk ends cleanly, over fewer bytes than a device end receives at most.
 abbrev pub TalksCleanly : (List ℕ → List ℕ) → Type 0
-TalksCleanly said = (x : List ℕ) × IsTalk said (out_device offered) x × (ends offered x ≡ Ok tt) × (length x < 1099511627776)
+TalksCleanly said = (x : List ℕ) × IsTalk said (out_device offered) x × (ends offered x ≡ Ok tt)
+    × (length x < 1099511627776)
 
 abbrev pub DoneOrMemory : Ended → Type 0
 DoneOrMemory (Ok u) = Unit {0}
@@ -67,7 +69,8 @@ Completes {L} told None r = Unit {0}
 Completes {L} told (Some net) r =
     (l : L) (rest : List L) (w : Wire) → net.coming ≡ l ∷ rest → told l ≡ Some w → TalksCleanly w.said → DoneOrMemory r
 
--- How a served link ends the command: a fault of the link is of the outside, want of memory is the program's, and every other fault is the peer's.
+-- How a served link ends the command: a fault of the link is of the outside, want of memory is the program's, and every
+-- other fault is the peer's.
 abbrev pub served_result : Result Unit EndFault → Ended
 served_result (Ok u) = Ok u
 served_result (Err (fault.Link count)) = Err (Outside (object.Link 0) count)

@@ -56,7 +56,9 @@ config_line (config.Missing t key) = key_line (codes "cosim: config: Missing ") 
 config_line (config.Kind t key) = key_line (codes "cosim: config: Kind ") t key
 config_line (config.TooMany count) = line_one (codes "cosim: config: TooMany ") count
 config_line (config.Word t key) = key_line (codes "cosim: config: Word ") t key
-config_line (config.Range t key value) = concat (codes "cosim: config: Range " ∷ table_name t ∷ codes " " ∷ key ∷ codes " " ∷ signed_decimal value ∷ codes "\n" ∷ [])
+config_line (config.Range t key value) =
+    concat (codes "cosim: config: Range " ∷ table_name t ∷ codes " " ∷ key ∷ codes " " ∷ signed_decimal value
+    ∷ codes "\n" ∷ [])
 config_line (config.Overlap a b) = line_two (codes "cosim: config: Overlap ") a b
 config_line (config.LineTwice a b) = line_two (codes "cosim: config: LineTwice ") a b
 config_line (config.Needs port cap) = line_two (codes "cosim: config: Needs ") port cap
@@ -73,7 +75,9 @@ cause_text (cause.DataRange n m) = line_two (codes "DataRange ") n m
 cause_text (cause.EnableRange n m) = line_two (codes "EnableRange ") n m
 
 abbrev pub malformed_line : PacketFault → List ℕ
-malformed_line f = before (codes "cosim: input: Malformed " ∷ decimal f.start ∷ codes " " ∷ decimal f.place ∷ codes " " ∷ []) (cause_text f.cause)
+malformed_line f =
+    before (codes "cosim: input: Malformed " ∷ decimal f.start ∷ codes " " ∷ decimal f.place ∷ codes " " ∷ [])
+    (cause_text f.cause)
 
 abbrev pub assembly_cause : AsmCause → List ℕ
 assembly_cause asm.Syntax = codes "Syntax"
@@ -86,7 +90,8 @@ abbrev pub input_line : InputFault → List ℕ
 input_line input.ImageEmpty = codes "cosim: input: ImageEmpty\n"
 input_line (input.ImageTooLarge size got) = line_two (codes "cosim: input: ImageTooLarge ") size got
 input_line (input.Line n) = line_one (codes "cosim: input: Line ") n
-input_line (input.Assembly n c) = concat (codes "cosim: input: Assembly " ∷ decimal n ∷ codes " " ∷ assembly_cause c ∷ codes "\n" ∷ [])
+input_line (input.Assembly n c) =
+    concat (codes "cosim: input: Assembly " ∷ decimal n ∷ codes " " ∷ assembly_cause c ∷ codes "\n" ∷ [])
 input_line (input.UartInput port len) = line_two (codes "cosim: input: UartInput ") port len
 input_line (input.DiskImage port len) = line_two (codes "cosim: input: DiskImage ") port len
 input_line (input.Malformed f) = malformed_line f
@@ -95,11 +100,17 @@ input_line (input.Words len) = line_one (codes "cosim: input: Words ") len
 
 -- the line of a peer's fault
 abbrev pub peer_line : ℕ → EndFault → List ℕ
-peer_line port (fault.Unbuilt start) = concat (codes "cosim: peer p" ∷ decimal port ∷ codes ": Unbuilt " ∷ decimal start ∷ codes "\n" ∷ [])
-peer_line port (fault.Truncated start held) = concat (codes "cosim: peer p" ∷ decimal port ∷ codes ": Truncated " ∷ decimal start ∷ codes " " ∷ decimal held ∷ codes "\n" ∷ [])
-peer_line port (fault.Ended taken) = concat (codes "cosim: peer p" ∷ decimal port ∷ codes ": Ended " ∷ decimal taken ∷ codes "\n" ∷ [])
-peer_line port (fault.TooMuch taken) = concat (codes "cosim: peer p" ∷ decimal port ∷ codes ": TooMuch " ∷ decimal taken ∷ codes "\n" ∷ [])
-peer_line port (fault.Link count) = concat (codes "cosim: peer p" ∷ decimal port ∷ codes ": Link " ∷ decimal count ∷ codes "\n" ∷ [])
+peer_line port (fault.Unbuilt start) =
+    concat (codes "cosim: peer p" ∷ decimal port ∷ codes ": Unbuilt " ∷ decimal start ∷ codes "\n" ∷ [])
+peer_line port (fault.Truncated start held) =
+    concat (codes "cosim: peer p" ∷ decimal port ∷ codes ": Truncated " ∷ decimal start ∷ codes " " ∷ decimal held
+    ∷ codes "\n" ∷ [])
+peer_line port (fault.Ended taken) =
+    concat (codes "cosim: peer p" ∷ decimal port ∷ codes ": Ended " ∷ decimal taken ∷ codes "\n" ∷ [])
+peer_line port (fault.TooMuch taken) =
+    concat (codes "cosim: peer p" ∷ decimal port ∷ codes ": TooMuch " ∷ decimal taken ∷ codes "\n" ∷ [])
+peer_line port (fault.Link count) =
+    concat (codes "cosim: peer p" ∷ decimal port ∷ codes ": Link " ∷ decimal count ∷ codes "\n" ∷ [])
 peer_line port fault.NoMemory = concat (codes "cosim: peer p" ∷ decimal port ∷ codes ": NoMemory\n" ∷ [])
 
 -- the line of an object of the outside

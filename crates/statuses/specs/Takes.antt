@@ -9,6 +9,7 @@ abbrev pub TakesAll : Type 0 → ℕ → Seen (List ℕ) → List ℕ → Type 0
 TakesAll sound room k text = sound → length text ≤ room → PrintsAll k text
 
 -- A text was put to a sink, and a sound one took all that it has room for.
-pub record Takes {S : Type 0} (told : S → Option (List ℕ)) (count room : S → ℕ) (sound : S → Type 0) (old new : S) (text : List ℕ) : Type 0 where
+pub record Takes {S : Type 0} (told : S → Option (List ℕ)) (count room : S → ℕ) (sound : S → Type 0) (old new : S)
+    (text : List ℕ) : Type 0 where
   pub put : IsPut (seen count told old new) text
   pub takes : TakesAll (sound old) (room old) (seen count told old new) text
