@@ -41,10 +41,10 @@ pub returns-in-Direct : goal.returns-in-Direct
 returns-in-Direct g c =
     rw c.in-Direct.is (record { result = c.direct.result; performs = c.direct.ensures; status = c.status_of-in-Direct.ensures; net = record { count = refl; same = refl } })
 
-pub returns-in-Help-Ok : goal.returns-in-Help-Ok
-returns-in-Help-Ok g c =
-    rw c.in-Help.is (helps _ (Ok tt) (record { count = refl; same = refl }) (record { count = refl; same = refl }) c.in-Help-Ok.ensures.puts c.in-Help-Ok.ensures.is_sound)
+pub returns-in-Ok : goal.returns-in-Ok
+returns-in-Ok g c =
+    rw c.in-Help.is (helps _ (Ok tt) (record { count = refl; same = refl }) (record { count = refl; same = refl }) c.in-Ok.ensures.puts c.in-Ok.ensures.is_sound)
 
-pub returns-in-Help-Err : goal.returns-in-Help-Err
-returns-in-Help-Err g c =
-    rw c.in-Help.is (helps _ (Err c.in-Help-Err.field-0) (record { count = refl; same = refl }) (record { count = refl; same = refl }) c.in-Help-Err.ensures.puts c.in-Help-Err.ensures.is_sound)
+pub returns-in-Err : goal.returns-in-Err
+returns-in-Err g c =
+    rw c.in-Help.is (helps _ (Err c.in-Err.field-0) (record { count = refl; same = refl }) (record { count = refl; same = refl }) c.in-Err.ensures.puts c.in-Err.ensures.is_sound)
