@@ -8,7 +8,7 @@ fn a_file_is_written_and_read_or_the_files_are_blamed(rt: HostRuntime) -> Result
     let mut files = MemFiles::make(alloc, Numbers::make(alloc));
     assert!(rt; write_file(&mut files, "a", b"text").is_ok());
     let read = match read_file(&mut files, "a") {
-        Ok(bytes) => bytes.as_slice() == b"text",
+        Ok(bytes) => bytes.as_slice() == b"text".as_slice(),
         Err(_) => false,
     };
     assert!(rt; read);
