@@ -11,15 +11,21 @@ PROGRAM = os.path.join(TOP, "dist", "cosim")
 MANIFEST = os.path.join(TOP, "dist", "manifest")
 
 
+def lines():
+    """The line of each crate in crates.txt."""
+    with open(os.path.join(TOP, "crates.txt"), encoding="utf-8") as file:
+        found = [line.split("#")[0].strip() for line in file]
+    return {line.split(":")[0].split()[0]: line for line in found if line}
+
+
+def lines_of(crates):
+    """A crates.txt of these crates alone."""
+    return [f"{line}\n" for name, line in lines().items() if name in crates]
+
+
 def all_crates():
     """Each crate of crates.txt, with those of them that it stands on."""
-    found = {}
-    with open(os.path.join(TOP, "crates.txt"), encoding="utf-8") as lines:
-        for line in lines:
-            line = line.split("#")[0].strip()
-            if line:
-                name, below = line.split(":", 1)
-                found[name.split()[0]] = below.split()
+    found = {name: line.split(":", 1)[1].split() for name, line in lines().items()}
     return {name: [crate for crate in below if crate in found] for name, below in found.items()}
 
 
@@ -36,6 +42,24 @@ def below(name):
 
     visit(name)
     return {crate: crates[crate] for crate in order}
+
+
+def size(name):
+    """How many bytes a crate's sources have, by which the time of its proof is guessed."""
+    total = 0
+    for part in ("proofs", "specs", "src"):
+        for folder, _, files in os.walk(os.path.join(CRATES, name, part)):
+            total += sum(os.path.getsize(os.path.join(folder, file)) for file in files)
+    return total
+
+
+def ways(crates):
+    """Of each crate how long the longest way over the crates above it is, itself among them, in bytes of sources."""
+    longest = {}
+    for name in reversed(crates):
+        above = [longest[upper] for upper in crates if name in crates[upper]]
+        longest[name] = size(name) + max(above, default=0)
+    return longest
 
 
 def sources():

@@ -12,7 +12,7 @@ import tempfile
 
 from support.program import built, check, run, told
 
-# each instruction of the table once, as it is listed
+# each instruction of the table, as it is listed
 ROWS = [
     (0xffff_f0b7, "lui x1, 1048575"),
     (0x8000_0f97, "auipc x31, 524288"),
@@ -62,6 +62,11 @@ ROWS = [
     (0x0010_0073, "ebreak"),
     (0x3020_0073, "mret"),
     (0x1050_0073, "wfi"),
+    # an immediate that lies in a word in each of the ways
+    (0xfe00_0ee3, "beq x0, x0, -4"),
+    (0x81ce_8023, "sb x28, -2048(x29)"),
+    (0x41f8_5793, "srai x15, x16, 31"),
+    (0x3004_6073, "csrrsi x0, mstatus, 8"),
 ]
 
 # words of no instruction, and their listing

@@ -8,6 +8,7 @@ The script ends with 1 on any mismatch.
 import contextlib
 import os
 import socket
+import struct
 import subprocess
 import sys
 import tempfile
@@ -21,6 +22,23 @@ HELLO = bytes.fromhex("00000001 00000018 00000000 00000000 00000000 0004 0003 00
 # a sync request with number 7 at tick 1000, and its answer
 SYNC = bytes.fromhex("00000006 00000008 00000007 00000000 00000000 00000000000003e8")
 ANSWER = bytes.fromhex("00000006 00000008 00000007 00000002 00000000 00000000000003e8")
+# a sync request with number 8 at tick 999
+EARLIER = bytes.fromhex("00000006 00000008 00000008 00000000 00000000 00000000000003e7")
+# a hello of version 3.0 without capabilities
+OLDER = bytes.fromhex("00000001 0000000c 00000000 00000000 00000000 0003 0000 00000020 0000 0000")
+# an interrupt request with number 1
+INTERRUPT = bytes.fromhex("00000005 00000015 00000001 00000000 00000000 0000000000000000 0000000000000000 00000000 01")
+
+
+def read(flags, attributes, size, data):
+    """A read with number 1 of so many bytes from 0x100 on, at tick 5, in the extended layout."""
+    body = struct.pack(">QQQIIIHHIIIII", 5, attributes, 0x100, size, 0, size, 0, 0, 0, 80, 0, 0, 0) + data
+    return struct.pack(">5I", 3, len(body), 1, flags, 0) + body
+
+
+# A null device answers code 2, and a read whose size no device serves is answered with code 1; both with zeros.
+READ, REFUSED = read(0, 4, 4, b""), read(2, 4 + 256 * 2, 4, bytes(4))
+ODD, ODD_REFUSED = read(0, 4, 3, b""), read(2, 4 + 256 * 1, 3, bytes(3))
 # a header of a command that is reserved
 BAD_HEADER = bytes.fromhex("00000007 ffffffff 00000000 00000000 00000000")
 
@@ -114,8 +132,15 @@ def main():
     with_peer("a peer that says nothing", [], HELLO, 4, b"cosim: peer p0: Ended 0\n")
     with_peer("a peer that stops within a header", [HELLO[:19]], HELLO, 4, b"cosim: peer p0: Truncated 0 19\n")
     with_peer("a peer that stops within a sync", [HELLO + SYNC[:27]], HELLO, 4, b"cosim: peer p0: Truncated 44 27\n")
-    with_peer("a peer that begins with a sync", [SYNC], HELLO, 4, b"cosim: peer p0: Unbuilt 0\n")
-    with_peer("a peer that sends a bad header", [HELLO + BAD_HEADER], HELLO, 4, b"cosim: peer p0: Unbuilt 44\n")
+    with_peer("a peer that begins with a sync", [SYNC], HELLO, 4, b"cosim: peer p0: HelloMissing 6\n")
+    with_peer("a peer that sends a bad header", [HELLO + BAD_HEADER], HELLO, 4, b"cosim: peer p0: Malformed 44 0 Translation 7\n")
+    with_peer("a peer that greets twice", [HELLO + HELLO], HELLO, 4, b"cosim: peer p0: HelloAgain\n")
+    with_peer("a peer of another version", [OLDER], HELLO, 4, b"cosim: peer p0: Version 3\n")
+    with_peer("a peer that interrupts a device", [HELLO + INTERRUPT], HELLO, 4, b"cosim: peer p0: Unsupported 5\n")
+    with_peer("a peer that answers what nobody asked", [HELLO + ANSWER], HELLO, 4, b"cosim: peer p0: StrayAnswer 7 6\n")
+    with_peer("a time that falls", [HELLO + SYNC + EARLIER], HELLO + ANSWER, 4, b"cosim: peer p0: TimeBackwards 1000 999\n")
+    with_peer("a read of a null device", [HELLO + READ], HELLO + REFUSED, 0, b"")
+    with_peer("a read of three bytes", [HELLO + ODD], HELLO + ODD_REFUSED, 0, b"")
     peer_gone()
     without_peer("no peer", ["device", "/nowhere/socket", "null"], 5, b"cosim: outside: net 1\n")
     without_peer("no words", [], 1, b"cosim: usage at word 0\n")

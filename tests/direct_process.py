@@ -82,6 +82,22 @@ ROWS = {
         ],
         "",
     ),
+    "a copy that ends at the end of RAM": (
+        {
+            "c": machine("script", 10, 100, image="i", script="s") + port("dma", 0x10000000, 0),
+            "i": bytes(0xFC0) + bytes([7]) * 64,
+            "s": "write 0 0x0 4 0x80000fc0\nwrite 0 0x4 4 0x80000100\nwrite 0 0x8 4 0x82\nwrite 0 0x10 4 0x1\nwait 6\nread 0 0x14 4\n",
+        },
+        0,
+        [
+            "@0 p0 write 0x0+4 = 0x80000fc0 code 0", "@1 p0 write 0x4+4 = 0x80000100 code 0", "@2 p0 write 0x8+4 = 0x82 code 0",
+            "@3 p0 write 0x10+4 = 0x1 code 0", f"@10 p0 fetch 0x80000fc0+64 due 3 = {'07' * 64} code 0",
+            f"@10 p0 store 0x80000100+64 due 10 = {'07' * 64} mask 0xffffffffffffffff code 0",
+            f"@10 p0 fetch 0x80001000+64 due 10 = {'00' * 64} code 2", "@10 p0 read 0x14+4 = 0x6 code 0", "stop halted 0 at 11",
+            "lines 00000000", ram(bytes(256) + bytes([7]) * 64 + bytes(0xFC0 - 320) + bytes([7]) * 64, 4096),
+        ],
+        "",
+    ),
     "a level that rises and falls": (
         {
             "c": machine("script", 10, 100, script="s") + port("timer", 0x10000000, 0),
@@ -122,13 +138,16 @@ ROWS = {
         {
             "c": machine("script", 10, 100, script="s") + port("disk", 0x10000000, 0, disk="d") + "bad = [1]\n",
             "d": bytes(1024),
-            "s": "write 0 0x4 4 0x0\nwrite 0 0xc 4 0x1\nwrite 0 0x0 4 0x1\nwrite 0 0x4 4 0x2\nwrite 0 0xc 4 0x1\nwrite 0 0x4 4 0x1\nwrite 0 0xc 4 0x1\nread 0 0x10 4\n",
+            "s": "write 0 0x4 4 0x0\nwrite 0 0xc 4 0x1\nwrite 0 0x0 4 0x1\nwrite 0 0x4 4 0x2\nwrite 0 0xc 4 0x1\nwrite 0 0x4 4 0x1\nwrite 0 0xc 4 0x1\nread 0 0x10 4\n"
+            "write 0 0x0 4 0x0\nwrite 0 0x4 4 0x81\nwrite 0 0xc 4 0x3\nwrite 0 0x0 4 0x1\nwrite 0 0x4 4 0x1\nwrite 0 0xc 4 0x3\nread 0 0x10 4\nread 0 0x14 4\n",
         },
         0,
         [
             "@0 p0 write 0x4+4 = 0x0 code 0", "@1 p0 write 0xc+4 = 0x1 code 1", "@2 p0 write 0x0+4 = 0x1 code 0", "@3 p0 write 0x4+4 = 0x2 code 0",
             "@4 p0 write 0xc+4 = 0x1 code 1", "@5 p0 write 0x4+4 = 0x1 code 0", "@6 p0 write 0xc+4 = 0x1 code 0", "@7 p0 read 0x10+4 = 0x6 code 0",
-            "stop halted 0 at 8", "lines 00000000", ram(b"", 4096),
+            "@8 p0 write 0x0+4 = 0x0 code 0", "@9 p0 write 0x4+4 = 0x81 code 0", "@10 p0 write 0xc+4 = 0x3 code 1", "@11 p0 write 0x0+4 = 0x1 code 0",
+            "@12 p0 write 0x4+4 = 0x1 code 0", "@13 p0 write 0xc+4 = 0x3 code 0", "@14 p0 read 0x10+4 = 0x6 code 0", "@15 p0 read 0x14+4 = 0x2 code 0",
+            "stop halted 0 at 16", "lines 00000000", ram(b"", 4096),
         ],
         "",
     ),
@@ -145,6 +164,27 @@ ROWS = {
         + ["@10 p0 write 0x8+4 = 0x80000400 code 0", "@11 p0 write 0xc+4 = 0x1 code 0"]
         + [f"@20 p0 store 0x{0x80000400 + 64 * n:x}+64 due {11 if n == 0 else 20} = {SECTOR[64 * n : 64 * n + 64].hex()} mask 0xffffffffffffffff code 0" for n in range(8)]
         + ["stop halted 0 at 20", "lines 00000000", ram(SECTOR + bytes(512) + SECTOR, 4096)],
+        "",
+    ),
+    "memory that ends within a sector": (
+        {
+            "c": machine("script", 10, 100, image="i", script="s") + port("disk", 0x10000000, 0, disk="d"),
+            "i": bytes(0xF80) + bytes([0x33]) * 128,
+            "d": bytes([0x11]) * 512,
+            "s": "write 0 0x8 4 0x80000f80\nwrite 0 0x0 4 0x0\nwrite 0 0x4 4 0x1\nwrite 0 0xc 4 0x7\nwrite 0 0xc 4 0x0\nwait 5\n"
+            "read 0 0x10 4\nwrite 0 0x8 4 0x80000000\nwrite 0 0xc 4 0x1\nwrite 0 0x14 4 0x3\nread 0 0x14 4\nwait 5\n",
+        },
+        0,
+        [
+            "@0 p0 write 0x8+4 = 0x80000f80 code 0", "@1 p0 write 0x0+4 = 0x0 code 0", "@2 p0 write 0x4+4 = 0x1 code 0",
+            "@3 p0 write 0xc+4 = 0x7 code 0", "@4 p0 write 0xc+4 = 0x0 code 1",
+            f"@10 p0 fetch 0x80000f80+64 due 3 = {'33' * 64} code 0", f"@10 p0 fetch 0x80000fc0+64 due 10 = {'33' * 64} code 0",
+            f"@10 p0 fetch 0x80001000+64 due 10 = {'00' * 64} code 2", "@10 p0 line 0 = 1 due 10", "@10 p0 read 0x10+4 = 0x6 code 0",
+            "@11 p0 write 0x8+4 = 0x80000000 code 0", "@12 p0 write 0xc+4 = 0x1 code 0", "@13 p0 write 0x14+4 = 0x3 code 1",
+            "@14 p0 read 0x14+4 = 0x1 code 0", "@20 p0 line 0 = 0 due 12",
+        ]
+        + [f"@20 p0 store 0x{0x80000000 + 64 * n:x}+64 due 20 = {('33' if n < 2 else '11') * 64} mask 0xffffffffffffffff code 0" for n in range(8)]
+        + ["stop halted 0 at 20", "lines 00000000", ram(bytes([0x33]) * 128 + bytes([0x11]) * 384 + bytes(0xF80 - 512) + bytes([0x33]) * 128, 4096)],
         "",
     ),
     "a script without a line": (
@@ -170,6 +210,30 @@ ROWS = {
         3, [], "cosim: input: DiskImage 0 700\n",
     ),
 }
+
+
+# lengths and masks of copies from the front of RAM
+COPIES = [(1, 0xFFFFFFFF), (64, 0), (65, 0xF0F01234), (65536, 0x80000001)]
+
+
+def copy_row(length, mask):
+    """A DMA's copy of a pattern, chunk by chunk: byte j of it is enabled where bit j mod 32 of the mask is set."""
+    image = bytes(place % 251 for place in range(65536))
+    after = bytearray(image + bytes(262144 - 65536))
+    settings = [(0, 0x80000000), (4, 0x80010000), (8, length), (12, mask), (16, 1)]
+    lines = [f"@{tick} p0 write 0x{addr:x}+4 = 0x{value:x} code 0" for tick, (addr, value) in enumerate(settings)]
+    for place in range(0, length, 64):
+        chunk = image[place : min(place + 64, length)]
+        enabled = sum(1 << byte for byte in range(len(chunk)) if mask >> byte % 32 & 1)
+        for byte, value in enumerate(chunk):
+            if enabled >> byte & 1:
+                after[65536 + place + byte] = value
+        lines.append(f"@10 p0 fetch 0x{0x80000000 + place:x}+{len(chunk)} due {10 if place else 4} = {chunk.hex()} code 0")
+        lines.append(f"@10 p0 store 0x{0x80010000 + place:x}+{len(chunk)} due 10 = {chunk.hex()} mask 0x{enabled:x} code 0")
+    lines += ["@10 p0 read 0x14+4 = 0x2 code 0", "stop halted 0 at 11", "lines 00000000", ram(bytes(after), 262144)]
+    script = "".join(f"write 0 0x{addr:x} 4 0x{value:x}\n" for addr, value in settings) + "wait 5\nread 0 0x14 4\n"
+    files = {"c": machine("script", 10, 100, size=262144, image="i", script="s") + port("dma", 0x10000000, 0), "i": image, "s": script}
+    return files, 0, lines, ""
 
 
 def try_row(row, files, status, lines, error):
@@ -216,6 +280,8 @@ def try_full_device():
 built()
 for row, (files, status, lines, error) in ROWS.items():
     try_row(row, files, status, lines, error)
+for length, mask in COPIES:
+    try_row(f"a copy of {length} bytes", *copy_row(length, mask))
 for name in ["hello", "dma_copy", "echo"]:
     try_example(name)
 try_full_device()

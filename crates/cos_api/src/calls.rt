@@ -68,10 +68,7 @@ impl Calls {
             self.push_spare(call);
             return Ok(());
         }
-        match self.items.push(call) {
-            Ok(()) => {}
-            Err(_) => return Err(NoMemory),
-        }
+        self.items.push(call)?;
         self.room = self.items.capacity() - self.items.len();
         Ok(())
     }

@@ -10,8 +10,6 @@ mod device;
 mod levels;
 mod master;
 mod service;
-#[cfg(test)]
-mod tests;
 
 pub use answers::plain;
 pub use calls::Calls;

@@ -1,13 +1,7 @@
-pub mod CallNumbers
-pub mod Calls
 pub mod Counts
 pub mod Links
-pub mod MemLinks
-pub mod MemNets
-pub mod MemStores
 pub mod Networks
 pub mod Octets
-pub mod Peers
 pub mod Prefixes
 pub mod Sinks
 pub mod Stores

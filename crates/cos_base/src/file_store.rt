@@ -1,7 +1,8 @@
 // Where files are read and written.
 ghost use Rattle.std.specs.Prelude.{◌≡◌, ℕ, List, Option, IsErrOf, IsSome};
 
-use crate::Octets;
+use crate::{NoMemory, Octets};
+use std::alloc::AllocError;
 
 /// Why a file wasn't read or written.
 #[derive(Clone, Copy, Debug, PartialEq, Eq, Drop)]
@@ -10,6 +11,28 @@ pub enum FileFault {
     Failed,
     /// Want of memory.
     NoMemory,
+}
+
+impl From<NoMemory> for FileFault {
+    ghost use Rattle.std.specs.Prelude.{◌≡◌};
+    ghost use Rattle.cos_base.specs.declared.file_store.FileFault.TheVariants.{NoMemory as WantOfMemory};
+
+    ghost from_gives = { λ _ fault. fault ≡ WantOfMemory };
+
+    fn from(_: NoMemory) -> Self {
+        FileFault::NoMemory
+    }
+}
+
+impl From<AllocError> for FileFault {
+    ghost use Rattle.std.specs.Prelude.{◌≡◌};
+    ghost use Rattle.cos_base.specs.declared.file_store.FileFault.TheVariants.{NoMemory as WantOfMemory};
+
+    ghost from_gives = { λ _ fault. fault ≡ WantOfMemory };
+
+    fn from(_: AllocError) -> Self {
+        FileFault::NoMemory
+    }
 }
 
 /// Where files are read and written, each under its name.

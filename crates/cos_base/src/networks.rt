@@ -2,7 +2,8 @@
 ghost use Rattle.std.specs.Prelude.{◌≡◌, [], ◌∷◌, ℕ, Option, IfOk, IfSome, IsErrOf, IsSomeAnd, All};
 ghost use Rattle.cos_base.specs.Links.{IsFresh};
 
-use crate::Link;
+use crate::{Link, NoMemory};
+use std::alloc::AllocError;
 
 /// Why a network hands out nothing.
 #[derive(Clone, Copy, Debug, PartialEq, Eq, Drop)]
@@ -11,6 +12,28 @@ pub enum NetFault {
     Failed,
     /// Want of memory.
     NoMemory,
+}
+
+impl From<NoMemory> for NetFault {
+    ghost use Rattle.std.specs.Prelude.{◌≡◌};
+    ghost use Rattle.cos_base.specs.declared.networks.NetFault.TheVariants.{NoMemory as WantOfMemory};
+
+    ghost from_gives = { λ _ fault. fault ≡ WantOfMemory };
+
+    fn from(_: NoMemory) -> Self {
+        NetFault::NoMemory
+    }
+}
+
+impl From<AllocError> for NetFault {
+    ghost use Rattle.std.specs.Prelude.{◌≡◌};
+    ghost use Rattle.cos_base.specs.declared.networks.NetFault.TheVariants.{NoMemory as WantOfMemory};
+
+    ghost from_gives = { λ _ fault. fault ≡ WantOfMemory };
+
+    fn from(_: AllocError) -> Self {
+        NetFault::NoMemory
+    }
 }
 
 /// Where links come from.

@@ -1,16 +1,8 @@
-ghost use Rattle.std.specs.Prelude.{◌≡◌, IfOk};
-
-use crate::{
-    DiskFiles, Failed, FileFault, Files, Got, Link, MemFiles, MemLink, MemNet, MemSink, NetFault,
-    Network, NoMemory, Numbers, Octets, Put, Said, Sink, StdSink, UnixNet,
-};
+use crate::{NoMemory, Numbers, Octets};
 use std::alloc::Global;
 use std::test::Fail;
-use std::{fs, process};
 
-fn octets(alloc: Global, bytes: &[u8]) -> Result<Octets, NoMemory>
-    ensures { IfOk result (λ o. o.bytes ≡ bytes.now) }
-{
+fn octets(alloc: Global, bytes: &[u8]) -> Result<Octets, NoMemory> {
     let mut octets = Octets::make(alloc);
     octets.push_all(bytes)?;
     Ok(octets)
@@ -38,123 +30,5 @@ fn bytes_grow_within_memory(rt: HostRuntime) -> Result<(), Fail> {
 fn numbers_grow_within_memory(rt: HostRuntime) -> Result<(), Fail> {
     let numbers = numbers(rt.alloc(), &[7, 4_294_967_295])?;
     assert_eq!(rt; numbers.as_slice(), [7, 4_294_967_295].as_slice());
-    Ok(())
-}
-
-#[test]
-fn sink_fails_at_its_number_and_past_its_room(rt: HostRuntime) -> Result<(), Fail> {
-    let mut sink = MemSink::make(rt.alloc(), 5, numbers(rt.alloc(), &[1])?)?;
-    let answers = [
-        sink.put(b"ab"),
-        sink.put(b"cd"),
-        sink.put(b"cd"),
-        sink.put(b"ef"),
-    ];
-    assert_eq!(rt; answers, [Ok(()), Err(Failed), Ok(()), Err(Failed)]);
-    assert_eq!(rt; sink.bytes(), b"abcd".as_slice());
-    Ok(())
-}
-
-/// What a read of files gave, and whether it is this.
-fn reads<F: Files>(files: &mut F, name: &str, wanted: &[u8]) -> bool {
-    match files.read(name) {
-        Ok(bytes) => bytes.as_slice() == wanted,
-        Err(_) => false,
-    }
-}
-
-#[test]
-fn files_fail_at_their_number_and_where_absent(rt: HostRuntime) -> Result<(), Fail> {
-    let mut files = MemFiles::make(rt.alloc(), numbers(rt.alloc(), &[2])?);
-    files.add("in", octets(rt.alloc(), b"old")?)?;
-    assert!(rt; matches!(files.write("in", b"new"), Ok(())));
-    assert!(rt; reads(&mut files, "in", b"new"));
-    assert!(rt; matches!(files.read("in"), Err(FileFault::Failed)));
-    assert!(rt; matches!(files.read("out"), Err(FileFault::Failed)));
-    Ok(())
-}
-
-/// A link that says seven bytes, two at first, and fails at its second call.
-fn link_of(alloc: Global) -> Result<MemLink<Said>, NoMemory> {
-    let peer = Said::make(alloc, octets(alloc, b"abcdefg")?);
-    Ok(MemLink::make(alloc, peer, numbers(alloc, &[2, 0])?, numbers(alloc, &[1])?))
-}
-
-#[test]
-fn link_keeps_its_cuts_and_fails_at_its_number(rt: HostRuntime) -> Result<(), Fail> {
-    let mut link = link_of(rt.alloc())?;
-    let mut into = [0; 8];
-    assert_eq!(rt; link.read(&mut into), Got::Bytes { count: 2 });
-    assert_eq!(rt; link.write(b"x"), Put::Failed);
-    assert_eq!(rt; link.write(b"yz"), Put::Bytes { count: 2 });
-    assert_eq!(rt; link.read(&mut into), Got::Bytes { count: 5 });
-    assert_eq!(rt; &into[..5], b"cdefg".as_slice());
-    assert_eq!(rt; link.read(&mut into), Got::End);
-    assert_eq!(rt; link.peer().heard(), b"yz".as_slice());
-    Ok(())
-}
-
-/// A network of one link that fails at its first call.
-fn net_of(alloc: Global) -> Result<MemNet<Said>, NoMemory> {
-    let peer = Said::make(alloc, Octets::make(alloc));
-    let link = MemLink::make(alloc, peer, Numbers::make(alloc), Numbers::make(alloc));
-    let mut links = Vec::new(alloc);
-    match links.push(link) {
-        Ok(()) => {}
-        Err(_) => return Err(NoMemory),
-    }
-    Ok(MemNet::make(alloc, links, numbers(alloc, &[0])?))
-}
-
-#[test]
-fn network_fails_at_its_number_and_where_no_link_is_left(rt: HostRuntime) -> Result<(), Fail> {
-    let mut net = net_of(rt.alloc())?;
-    assert!(rt; matches!(net.connect("a"), Err(NetFault::Failed)));
-    assert!(rt; net.connect("b").is_ok());
-    assert!(rt; matches!(net.accept(0), Err(NetFault::Failed)));
-    assert_eq!(rt; net.faults(), 2);
-    Ok(())
-}
-
-#[test]
-fn standard_output_is_a_sink(rt: HostRuntime) {
-    let mut out = StdSink::make(rt.stdout());
-    assert_eq!(rt; out.put(b"put\n"), Ok(()));
-}
-
-#[test]
-fn disk_files_are_kept(rt: HostRuntime) -> Result<(), Fail> {
-    let path = format!(in rt.alloc(); "/tmp/cos_base_file_{}", process::id(rt.process()))?;
-    let mut files = DiskFiles::make(rt.alloc(), &rt);
-    assert!(rt; matches!(files.read(path.as_str()), Err(FileFault::Failed)));
-    assert!(rt; matches!(files.write(path.as_str(), b"kept"), Ok(())));
-    assert!(rt; reads(&mut files, path.as_str(), b"kept"));
-    fs::remove_file(&rt, path.as_str())?;
-    Ok(())
-}
-
-/// Sends four bytes one way, and closes; whether they and the end came.
-fn carries<A: Link, B: Link>(near: A, far: &mut B) -> bool {
-    let mut near = near;
-    let mut into = [0; 8];
-    let sent = near.write(b"ping");
-    drop(near);
-    let got = far.read(&mut into);
-    sent == Put::Bytes { count: 4 }
-        && got == Got::Bytes { count: 4 }
-        && &into[..4] == b"ping".as_slice()
-        && far.read(&mut into) == Got::End
-}
-
-#[test]
-fn unix_sockets_carry_bytes(rt: HostRuntime) -> Result<(), Fail> {
-    let path = format!(in rt.alloc(); "/tmp/cos_base_net_{}", process::id(rt.process()))?;
-    let mut net = UnixNet::make(rt.alloc(), &rt);
-    let listener = net.listen(path.as_str()).or(Err("no listener"))?;
-    let near = net.connect(path.as_str()).or(Err("no connection"))?;
-    let mut far = net.accept(listener).or(Err("none accepted"))?;
-    assert!(rt; carries(near, &mut far));
-    // the listener is gone, with its file
-    assert!(rt; matches!(net.connect(path.as_str()), Err(NetFault::Failed)));
     Ok(())
 }

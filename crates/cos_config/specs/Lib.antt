@@ -6,3 +6,4 @@ pub mod PortParts
 pub mod Rules
 pub mod Reading
 pub mod Judged
+pub mod Plans

@@ -1,5 +1,6 @@
 // What is wrong with a configuration.
 use crate::Name;
+use cos_base::NoMemory;
 
 /// A table of the configuration.
 #[derive(Clone, Copy, PartialEq, Eq, Debug)]
@@ -65,4 +66,15 @@ pub enum ConfigFault {
     },
     /// There was no memory. Nothing is said of the text.
     NoMemory,
+}
+
+impl From<NoMemory> for ConfigFault {
+    ghost use Rattle.std.specs.Prelude.{◌≡◌};
+    ghost use Rattle.cos_config.specs.declared.fault.ConfigFault.TheVariants.{NoMemory as WantOfMemory};
+
+    ghost from_gives = { λ _ fault. fault ≡ WantOfMemory };
+
+    fn from(_: NoMemory) -> Self {
+        ConfigFault::NoMemory
+    }
 }

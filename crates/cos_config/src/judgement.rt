@@ -67,10 +67,7 @@ fn read_ports(alloc: Global, entries: &Array, sockets: Sockets) -> Result<Ports,
         };
         let number = ports.len() as u32;
         let read = port::port(alloc, number, table, asks_for_socket(sockets, number))?;
-        match ports.push(read) {
-            Ok(()) => {}
-            Err(NoMemory) => return Err(ConfigFault::NoMemory),
-        }
+        ports.push(read)?;
     }
     Ok(ports)
 }

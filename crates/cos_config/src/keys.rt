@@ -106,10 +106,7 @@ impl<'a> Keys<'a> {
     {
         match value.as_str() {
             None => Err(self.wrong_kind(key)),
-            Some(text) => match Name::copy_of(self.alloc, text) {
-                Ok(name) => Ok(Some(name)),
-                Err(NoMemory) => Err(ConfigFault::NoMemory),
-            },
+            Some(text) => Ok(Some(Name::copy_of(self.alloc, text)?)),
         }
     }
 
@@ -184,10 +181,7 @@ impl<'a> Keys<'a> {
                 step: 1,
             };
             let number = self.number_in(key, entry, limits)?;
-            match numbers.push(number) {
-                Ok(()) => {}
-                Err(NoMemory) => return Err(ConfigFault::NoMemory),
-            }
+            numbers.push(number)?;
             least = number + 1;
         }
         Ok(numbers)

@@ -15,6 +15,3 @@ pub use config::{Config, MachineKind, PortConfig, PortKind, Ports, Sockets};
 pub use fault::{ConfigFault, TableName};
 pub use judgement::judge;
 pub use name::Name;
-
-#[cfg(test)]
-mod tests;

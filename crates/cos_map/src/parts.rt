@@ -47,10 +47,7 @@ pub fn without_windows(alloc: Global, ram: u32) -> Result<Vec<Part>, NoMemory>
 pub fn push_part(all: &mut Vec<Part>, part: Part) -> Result<(), NoMemory>
     ensures { IfOk result (λ _. all.new.items ≡ all.old.items ++ part ∷ []) }
 {
-    match all.push(part) {
-        Ok(()) => Ok(()),
-        Err(_) => Err(NoMemory),
-    }
+    Ok(all.push(part)?)
 }
 
 /// The first part behind part `a` that shares an address with it, beside `a`.

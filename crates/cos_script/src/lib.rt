@@ -5,8 +5,6 @@ mod fault;
 mod lines;
 mod master;
 mod step;
-#[cfg(test)]
-mod tests;
 mod words;
 
 pub use fault::ScriptFault;

@@ -117,10 +117,7 @@ impl Master for ScriptMaster {
     }
 
     fn write(&mut self, addr: u64, bytes: &[u8], enables: &[u8]) -> Result<u8, NoMemory> {
-        match self.ram.write(addr, bytes, enables) {
-            Ok(code) => Ok(code),
-            Err(NoMemory) => Err(NoMemory),
-        }
+        self.ram.write(addr, bytes, enables)
     }
 
     fn line(&mut self, line: u32, level: bool) {

@@ -5,8 +5,6 @@ mod bytes;
 mod hexadecimal;
 mod lines;
 mod numbers;
-#[cfg(test)]
-mod tests;
 
 pub use bytes::{encode, push_bytes};
 pub use hexadecimal::{Hexadecimal, push_hexadecimal};

@@ -1,7 +1,7 @@
 //! The program `cosim`: it makes the real objects, does what its words say, and ends with the status' number.
 #![tactic(auto)]
 
-use cos_base::{DiskFiles, StdSink, UnixNet};
+use cos_adapters::{DiskFiles, StdSink, UnixNet};
 use cosim_cli::{cosim, misspelled};
 use statuses::{Status, tell_status};
 use std::env::{Env, FillError};

@@ -1,7 +1,8 @@
 //! The command `asm`.
 
-ghost use Rattle.std.specs.Prelude.{◌≡◌, List, ℕ, Ok, Err, IfOk, IfErr};
+ghost use Rattle.std.specs.Prelude.{◌≡◌, ◌∷◌, [], List, ℕ, Ok, Err, IfOk, IfErr};
 ghost use Rattle.outcomes.specs.Seen.{Seen, seen, IsUntouched};
+ghost use Rattle.outcomes.specs.Asked.{asking, AsksFor};
 ghost use Rattle.outcomes.specs.Outcomes.{Performs};
 ghost use Rattle.cosim_assembly.specs.Images.{image_of};
 ghost use Rattle.cosim_assembly.specs.Assemblies.{Images, IsRefused, AsmComes};
@@ -66,8 +67,10 @@ pub fn asm<F: Files>(
     target: &str,
     files: &mut F,
 ) -> Result<(), Stop<AsmRefusal>>
-    ensures { (out : Seen (List ℕ)) (room : ℕ) → IsUntouched out →
+    ensures performs { (out : Seen (List ℕ)) (room : ℕ) → IsUntouched out →
         Performs (AsmComes file.now target.now (F.told files.old)) (seen F.count F.told files.old files.new) out (F.sound files.old) room result }
+    // It asks for its text, and then for the file that it writes, each once.
+    ensures asks { AsksFor (λ m. file.now ∷ []) (target.now ∷ []) (asking F.told F.asked files.old files.new) result }
 {
     let text = read_file(files, file)?;
     let image = image_of_bytes(alloc, text.as_slice())?;

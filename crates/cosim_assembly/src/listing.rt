@@ -2,6 +2,7 @@
 
 ghost use Rattle.std.specs.Prelude.{◌≡◌, ◌≤◌, ◌+◌, [], ◌∷◌, length, IfOk};
 ghost use Rattle.outcomes.specs.Seen.{seen};
+ghost use Rattle.outcomes.specs.Asked.{asking, AsksFor};
 ghost use Rattle.outcomes.specs.Outcomes.{Performs};
 ghost use Rattle.cosim_assembly.specs.Images.{words_of};
 ghost use Rattle.cosim_assembly.specs.Listings.{lines_of, DisComes};
@@ -45,8 +46,10 @@ pub fn dis<F: Files, K: Sink>(
     files: &mut F,
     out: &mut K,
 ) -> Result<(), Stop<DisRefusal>>
-    ensures { Performs (DisComes file.now (F.told files.old)) (seen F.count F.told files.old files.new)
+    ensures performs { Performs (DisComes file.now (F.told files.old)) (seen F.count F.told files.old files.new)
         (seen K.count K.told out.old out.new) (F.sound files.old × K.sound out.old) (K.room out.old) result }
+    // It asks for its file, once.
+    ensures asks { AsksFor (λ m. file.now ∷ []) [] (asking F.told F.asked files.old files.new) result }
 {
     let image = read_file(files, file)?;
     if image.len() % 4 != 0 {

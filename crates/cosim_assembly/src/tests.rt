@@ -1,5 +1,6 @@
 use crate::{AsmRefusal, DisRefusal, asm, dis};
-use cos_base::{Files, MemFiles, MemSink, NoMemory, Numbers, Octets};
+use cos_base::{Files, NoMemory, Numbers, Octets};
+use cos_memory::{MemFiles, MemSink};
 use outcomes::Stop;
 use rv_asm::Cause;
 use std::alloc::Global;

@@ -1,32 +1,36 @@
 -- What each command promises, and so the program for its words.
-use Rattle.std.specs.Prelude.{ℕ, ◌≡◌, List, []}
+use Rattle.std.specs.Prelude.{ℕ, ◌≡◌, List, [], ◌∷◌}
 use Rattle.std.specs.declared.option.Option.{Option}
 use Rattle.std.specs.declared.result.Result.{Result}
 use Rattle.cos_base.specs.Links.{Wire}
 use Rattle.cos_base.specs.Networks.{Coming}
 use Rattle.cos_base.specs.Stores.{Store}
 use Rattle.outcomes.specs.declared.stop.Stop.{Stop}
+use Rattle.outcomes.specs.Asked.{Asking, Names, AsksNone, AsksFor}
 use Rattle.outcomes.specs.Seen.{Seen, IsUntouched}
 use Rattle.outcomes.specs.Outcomes.{Outcome, OfFile, Performs}
 use Rattle.statuses.specs.declared.status.Status.{Status}
 use Rattle.statuses.specs.declared.status.Status.TheVariants as status
 use Rattle.cosim_assembly.specs.Assemblies.{AsmComes}
 use Rattle.cosim_assembly.specs.Listings.{DisComes}
-use Rattle.cosim_direct.specs.Directs.{DirectComes}
+use Rattle.cosim_direct.specs.Directs.{DirectComes, direct_names}
 use Rattle.cosim_packets.specs.Packed.{Packed}
 use Rattle.cosim_packets.specs.Shown.{Shown}
-use Rattle.cosim_serve.specs.Serves.{Serves}
+use Rattle.cos_parts.specs.Nulls.{null_model}
+use Rattle.cosim_serve.specs.Serves.{NetView, ServesFresh}
+use Rattle.cosim_device.specs.Starts.{null_start}
 use Rattle.cosim_serve.specs.Talks.{Ended}
 use Rattle.cosim_cli.specs.Ended.{ended_status, show_refused, pack_refused, asm_refused, dis_refused, inputs_refused, device_refused}
 use Rattle.cosim_cli.specs.Help.{Helps}
 use Rattle.cosim_cli.specs.Words.{Command, Device, Show, Pack, Asm, Dis, Direct, Help, words_of}
 
--- what is around a call: its objects before and after it, whether they are sound before it, the room of `out`, and what
--- the links of the network tell and count
+-- what is around a call: its objects before and after it, the names that the files were asked for, whether the objects
+-- are sound before it, the room of `out`, and what the links of the network tell and count
 pub record Around (L : Type 0) : Type 1 where
   pub files : Seen Store
   pub out : Seen (List ℕ)
   pub net : Seen (Coming L)
+  pub names : Asking
   pub sound_files : Type 0
   pub sound_out : Type 0
   pub sound_net : Type 0
@@ -34,21 +38,27 @@ pub record Around (L : Type 0) : Type 1 where
   pub told : L → Option Wire
   pub count : L → ℕ
 
--- A command over files ended by what it comes to, the status is that of how it ended, and the network is untouched.
-pub record Performed {L R : Type 0} (refused : R → Status) (Comes : Outcome R → Type 0) (a : Around L) (s : Status)
-    : Type 0 where
+-- A command over files ended by what it comes to, asked for the names that it reads and then for those that it writes,
+-- the status is that of how it ended, and the network is untouched.
+pub record Performed {L R : Type 0} (refused : R → Status) (Comes : Outcome R → Type 0) (reads : Names)
+    (writes : List (List ℕ)) (a : Around L) (s : Status) : Type 0 where
   pub result : Result Unit (Stop R)
   pub performs : Performs Comes a.files a.out (a.sound_files × a.sound_out) a.room result
+  pub asks : AsksFor reads writes a.names result
   pub status : s ≡ ended_status refused result
   pub net : IsUntouched a.net
+
+abbrev pub view_of : {L : Type 0} → Around L → NetView L
+view_of a = record { told = a.told; count = a.count; is_sound = a.sound_net }
 
 -- A null device served the first link that was to come, the status is that of how it ended, and the files and `out` are
 -- untouched.
 pub record Served {L : Type 0} (socket : List ℕ) (a : Around L) (s : Status) : Type 0 where
   pub result : Ended
-  pub serves : Serves a.told a.count a.sound_net socket a.net result
+  pub serves : ServesFresh null_model null_start 0 (view_of a) socket a.net result
   pub status : s ≡ ended_status device_refused result
   pub files : IsUntouched a.files
+  pub asks : AsksNone a.names
   pub out : IsUntouched a.out
 
 -- it refuses nothing
@@ -58,12 +68,12 @@ none_refused never = absurd never
 -- what each command promises
 abbrev pub Keeps : {L : Type 0} → Command → Around L → Status → Type 0
 Keeps (Device socket) a s = Served socket a s
-Keeps (Show file) a s = Performed show_refused (OfFile file Shown a.files.old) a s
-Keeps (Pack file) a s = Performed pack_refused (OfFile file Packed a.files.old) a s
-Keeps (Asm file out) a s = Performed asm_refused (AsmComes file out a.files.old) a s
-Keeps (Dis file) a s = Performed dis_refused (DisComes file a.files.old) a s
-Keeps (Direct config) a s = Performed inputs_refused (DirectComes a.files.old config) a s
-Keeps Help a s = Performed none_refused Helps a s
+Keeps (Show file) a s = Performed show_refused (OfFile file Shown a.files.old) (λ m. file ∷ []) [] a s
+Keeps (Pack file) a s = Performed pack_refused (OfFile file Packed a.files.old) (λ m. file ∷ []) [] a s
+Keeps (Asm file out) a s = Performed asm_refused (AsmComes file out a.files.old) (λ m. file ∷ []) (out ∷ []) a s
+Keeps (Dis file) a s = Performed dis_refused (DisComes file a.files.old) (λ m. file ∷ []) [] a s
+Keeps (Direct config) a s = Performed inputs_refused (DirectComes a.files.old config) (direct_names config) [] a s
+Keeps Help a s = Performed none_refused Helps (λ m. []) [] a s
 
 -- the words are those of a command, and it keeps its promise
 abbrev pub KeepsSome : {L : Type 0} → List (List ℕ) → Around L → Status → Type 0
@@ -71,7 +81,7 @@ KeepsSome words a s = (c : Command) × (words ≡ words_of c) × Keeps c a s
 
 -- The program does nothing where its words are no command, and otherwise keeps the command's promise.
 abbrev pub Promises : {L : Type 0} → List (List ℕ) → Around L → Status → Type 0
-Promises words a (status.Usage index) = IsUntouched a.files × IsUntouched a.out × IsUntouched a.net
+Promises words a (status.Usage index) = IsUntouched a.files × IsUntouched a.out × IsUntouched a.net × AsksNone a.names
 Promises words a status.Done = KeepsSome words a status.Done
 Promises words a (status.Config e) = KeepsSome words a (status.Config e)
 Promises words a (status.Input e) = KeepsSome words a (status.Input e)

@@ -1,5 +1,6 @@
 use crate::cosim;
-use cos_base::{MemFiles, MemLink, MemNet, MemSink, NoMemory, Numbers, Octets, Said};
+use cos_base::{NoMemory, Numbers, Octets};
+use cos_memory::{MemFiles, MemLink, MemNet, MemSink, Said};
 use std::alloc::{AllocError, Global};
 use std::test::Fail;
 

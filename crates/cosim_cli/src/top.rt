@@ -1,6 +1,7 @@
 // The top call.
 ghost use Rattle.std.specs.Prelude.{map, string_bytes};
 ghost use Rattle.outcomes.specs.Seen.{seen};
+ghost use Rattle.outcomes.specs.Asked.{asking};
 ghost use Rattle.statuses.specs.Lines.{TellsStatus, line_of};
 ghost use Rattle.statuses.specs.Takes.{TakesAll};
 ghost use Rattle.cosim_cli.specs.Promises.{Keeps, Promises};
@@ -11,9 +12,9 @@ use crate::refusals::status_of;
 use crate::words::{Command, command_of, stop_of};
 use cos_base::{Files, Network, Sink};
 use cosim_assembly::{asm, dis};
+use cosim_device::device;
 use cosim_direct::direct;
 use cosim_packets::{pack, show};
-use cosim_serve::device;
 use outcomes::{Object, OutFailure};
 use statuses::{Status, tell_status};
 use std::alloc::Global;
@@ -30,6 +31,7 @@ fn perform<F: Files, K: Sink, N: Network>(
       files = seen F.count F.told files.old files.new;
       out = seen K.count K.told out.old out.new;
       net = seen N.count N.told net.old net.new;
+      names = asking F.told F.asked files.old files.new;
       sound_files = F.sound files.old;
       sound_out = K.sound out.old;
       sound_net = N.sound net.old;
@@ -81,6 +83,7 @@ pub fn cosim<F: Files, K: Sink, E: Sink, N: Network>(
       files = seen F.count F.told files.old files.new;
       out = seen K.count K.told out.old out.new;
       net = seen N.count N.told net.old net.new;
+      names = asking F.told F.asked files.old files.new;
       sound_files = F.sound files.old;
       sound_out = K.sound out.old;
       sound_net = N.sound net.old;

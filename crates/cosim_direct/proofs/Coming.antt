@@ -28,7 +28,8 @@ use Rattle.cosim_inputs.specs.Inputs.{trouble, machine_files}
 use Rattle.cosim_inputs.specs.Judging.{judged}
 use Rattle.cosim_inputs.specs.Reads.{AreRead, AreUnread, AreLacking}
 use Rattle.cosim_inputs.proofs.Reading.{told-first}
-use Rattle.cosim_direct.specs.Directs.{plan_of, machine_of, or_printed, judged_to, found_to, DirectComes}
+use Rattle.cos_config.specs.Plans.{plan_of}
+use Rattle.cosim_direct.specs.Directs.{machine_of, or_printed, judged_to, found_to, DirectComes}
 use Rattle.cosim_direct.specs.Texts.{run_lines}
 
 -- the file of the configuration was judged this one

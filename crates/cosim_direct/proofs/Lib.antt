@@ -1,3 +1,4 @@
 pub mod Listed
 pub mod Printing
 pub mod Coming
+pub mod Naming

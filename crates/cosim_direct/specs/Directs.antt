@@ -1,5 +1,6 @@
 -- What the command `direct` comes to, by its configuration and the files that this names.
-use Rattle.std.specs.Prelude.{◌≡◌, ℕ, List, [], Result, Ok, Err}
+use Rattle.std.specs.Prelude.{◌≡◌, ℕ, List, [], ◌∷◌, Result, Ok, Err}
+use Rattle.cos_config.specs.Plans.{plan_of}
 use Rattle.std.specs.declared.option.Option.{Option}
 use Rattle.std.specs.declared.option.Option.TheVariants.{Some, None}
 use Rattle.cos_base.specs.Stores.{Store}
@@ -16,12 +17,9 @@ use Rattle.outcomes.specs.Outcomes.{Outcome, Lacks, Refuses, Works}
 use Rattle.cosim_inputs.specs.declared.refusals.InputsRefusal.{InputsRefusal}
 use Rattle.cosim_inputs.specs.declared.refusals.InputsRefusal.TheVariants.{Config}
 use Rattle.cosim_inputs.specs.Fresh.{master_of, devices_of}
-use Rattle.cosim_inputs.specs.Inputs.{trouble, machine_files}
+use Rattle.cosim_inputs.specs.Inputs.{trouble, machine_files, names_read}
 use Rattle.cosim_inputs.specs.Judging.{judged}
 use Rattle.cosim_direct.specs.Texts.{run_lines}
-
-abbrev pub plan_of : Settings → Plan
-plan_of c = record { quantum = c.quantum; units = c.units }
 
 -- the direct machine of the master and the devices at reset, with what the files hold
 abbrev pub machine_of : Store → Settings → Direct AnyMaster AnyDevice
@@ -44,3 +42,17 @@ found_to m name (Some bytes) = judged_to m (judged Unneeded bytes)
 abbrev pub DirectComes : Option Store → List ℕ → Outcome InputsRefusal → Type 0
 DirectComes None name o = Unit {0}
 DirectComes (Some m) name o = o ≡ found_to m name (m name)
+
+-- The names that it asks for: its configuration's, and behind it those of the files that this names, up to the first
+-- that something stands against.
+
+abbrev pub names_judged : Store → Result Settings ConfigFault → List (List ℕ)
+names_judged m (Ok c) = names_read (machine_files c) m
+names_judged m (Err f) = []
+
+abbrev pub names_found : Store → Option (List ℕ) → List (List ℕ)
+names_found m None = []
+names_found m (Some bytes) = names_judged m (judged Unneeded bytes)
+
+abbrev pub direct_names : List ℕ → Store → List (List ℕ)
+direct_names name m = name ∷ names_found m (m name)

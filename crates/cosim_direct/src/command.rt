@@ -1,11 +1,12 @@
 // The command.
 ghost use Rattle.std.specs.Prelude.{◌≡◌, ◌≤◌, [], All, IfOk, IfErr};
 ghost use Rattle.outcomes.specs.Seen.{seen};
+ghost use Rattle.outcomes.specs.Asked.{asking, AsksEach, AsksFor};
 ghost use Rattle.outcomes.specs.Outcomes.{Performs};
 ghost use Rattle.outcomes.specs.Steps.{IsPrinted, IsRoomFor, ComesUnread, ComesLacking};
 ghost use Rattle.transcript.specs.CallLines.{HasLine};
 ghost use Rattle.transcript.specs.ClosingLines.{run_text};
-ghost use Rattle.cosim_direct.specs.Directs.{DirectComes};
+ghost use Rattle.cosim_direct.specs.Directs.{DirectComes, direct_names};
 ghost use Rattle.cosim_direct.specs.Steps.{IsRun};
 
 use crate::finished::{Finished, run};
@@ -28,6 +29,7 @@ fn finish<F: Files>(
     ensures empty { IfOk result (λ f. f.piece.bytes ≡ []) }
     ensures room { IfOk result (λ f. 512 ≤ f.piece.spare) }
     ensures err { IfErr result (λ e. ComesUnread (DirectComes (F.told files.old) name.now) (seen F.count F.told files.old files.new) e) }
+    ensures asks { AsksEach (direct_names name.now) (asking F.told F.asked files.old files.new) result }
     ensures is_sound { F.sound files.old → IfErr result (λ e. ComesLacking (DirectComes (F.told files.old) name.now) e) }
 {
     let config = match read_config(alloc, files, name, Sockets::Unneeded) {
@@ -76,8 +78,10 @@ pub fn direct<F: Files, K: Sink>(
     files: &mut F,
     out: &mut K,
 ) -> Result<(), Stop<InputsRefusal>>
-    ensures { Performs (DirectComes (F.told files.old) name.now) (seen F.count F.told files.old files.new)
+    ensures performs { Performs (DirectComes (F.told files.old) name.now) (seen F.count F.told files.old files.new)
         (seen K.count K.told out.old out.new) (F.sound files.old × K.sound out.old) (K.room out.old) result }
+    // It asks for the configuration and then for the files that this names, each once, up to the first that something stands against.
+    ensures asks { AsksFor (direct_names name.now) [] (asking F.told F.asked files.old files.new) result }
 {
     let finished = finish(alloc, name, files)?;
     put_finished(finished, out)?;

@@ -1,5 +1,6 @@
 use crate::direct;
-use cos_base::{MemFiles, MemSink, NoMemory, Numbers, Octets};
+use cos_base::{NoMemory, Numbers, Octets};
+use cos_memory::{MemFiles, MemSink};
 use cosim_inputs::InputsRefusal;
 use outcomes::Stop;
 use std::alloc::Global;

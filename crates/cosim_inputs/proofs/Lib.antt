@@ -1,3 +1,4 @@
+pub mod Asking
 pub mod Limiting
 pub mod Reading
 pub mod Judged

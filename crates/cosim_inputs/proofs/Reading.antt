@@ -24,7 +24,7 @@ refused-none : (r : Option InputsRefusal) (u v : Option (Outcome InputsRefusal))
 refused-none None u v any none = (refl, none)
 refused-none (Some f) u v any none = absurd (cc)
 
-at-none : (a : Asked) (found : Option (List ℕ)) (u v : Option (Outcome InputsRefusal)) → trouble_at a found u ≡ None → (trouble_at a found v ≡ v) × (u ≡ None)
+pub at-none : (a : Asked) (found : Option (List ℕ)) (u v : Option (Outcome InputsRefusal)) → trouble_at a found u ≡ None → (trouble_at a found v ≡ v) × (u ≡ None)
 at-none a None u v none = absurd (cc)
 at-none a (Some bytes) u v none =
     let r = refused-none (refusal a.role bytes) u u (λ e. refl) none in

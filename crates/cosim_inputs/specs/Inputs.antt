@@ -99,3 +99,13 @@ trouble_at a (Some bytes) later = or_refused (refusal a.role bytes) later
 abbrev pub trouble : Store → List Asked → Option (Outcome InputsRefusal)
 trouble m [] = None
 trouble m (a ∷ later) = trouble_at a (m a.name) (trouble m later)
+
+-- The names that reading some files asks for: those up to the first that something stands against, and with it.
+
+abbrev pub or_stopped : Option (Outcome InputsRefusal) → List (List ℕ) → List (List ℕ)
+or_stopped None later = later
+or_stopped (Some stands) later = []
+
+abbrev pub names_read : List Asked → Store → List (List ℕ)
+names_read [] m = []
+names_read (a ∷ later) m = a.name ∷ or_stopped (trouble_at a (m a.name) None) (names_read later m)

@@ -1,6 +1,7 @@
 // The configuration.
-ghost use Rattle.std.specs.Prelude.{◌≡◌, ◌⊎◌, Ok, Err, IfOk, IfErr};
+ghost use Rattle.std.specs.Prelude.{◌≡◌, ◌⊎◌, ◌∷◌, [], Ok, Err, IfOk, IfErr};
 ghost use Rattle.outcomes.specs.Seen.{seen};
+ghost use Rattle.outcomes.specs.Asked.{asking, AsksEach};
 ghost use Rattle.cosim_inputs.specs.Limits.{IsWithinLimits};
 ghost use Rattle.cosim_inputs.specs.Judging.{judged};
 ghost use Rattle.cosim_inputs.specs.Configs.{IsConfigRead, IsConfigUnread, IsConfigLacking};
@@ -33,6 +34,8 @@ pub fn read_config<F: Files>(
     ensures limits { IfOk result IsWithinLimits }
     // The first rule that it breaks, the files blamed, or no memory.
     ensures err { IfErr result (IsConfigUnread sockets (seen F.count F.told files.old files.new) name.now) }
+    // It asks for its name, once.
+    ensures asks { AsksEach (λ m. name.now ∷ []) (asking F.told F.asked files.old files.new) result }
     // Sound files are blamed only where they lack the name.
     ensures is_sound { F.sound files.old → F.sound files.new × IfErr result (IsConfigLacking (F.told files.old) name.now) }
 {

@@ -2,8 +2,9 @@
 ghost use Rattle.std.specs.Prelude.{◌≡◌, ◌%◌, ◌≤◌, All, Some, IfOk, IfErr, IfSome, length, vec_len};
 ghost use Rattle.cos_parts.specs.AnyDevices.{any_seen};
 ghost use Rattle.outcomes.specs.Seen.{seen};
+ghost use Rattle.outcomes.specs.Asked.{asking, AsksEach};
 ghost use Rattle.cosim_inputs.specs.Limits.{IsPort, ArePorts};
-ghost use Rattle.cosim_inputs.specs.Inputs.{asked_as, port_files, ports_files, AsInput, AsDisk};
+ghost use Rattle.cosim_inputs.specs.Inputs.{asked_as, port_files, ports_files, names_read, AsInput, AsDisk};
 ghost use Rattle.cosim_inputs.specs.Fresh.{bytes_in, device_of, devices_of};
 ghost use Rattle.cosim_inputs.specs.Reads.{AreRead, AreUnread, AreLacking};
 
@@ -39,6 +40,7 @@ fn read_input<F: Files>(
     ensures bytes { IfOk result (λ o. IfSome (F.told files.old) (λ m. o.bytes ≡ bytes_in m name.now)) }
     ensures few { IfOk result (λ o. length o.bytes ≤ 65536) }
     ensures err { IfErr result (AreUnread (seen F.count F.told files.old files.new) (asked_as (AsInput port) name.now)) }
+    ensures asks { AsksEach (names_read (asked_as (AsInput port) name.now)) (asking F.told F.asked files.old files.new) result }
     ensures is_sound { F.sound files.old → F.sound files.new × IfErr result (AreLacking (F.told files.old) (asked_as (AsInput port) name.now)) }
 {
     let name = match name {
@@ -70,6 +72,7 @@ fn read_image<F: Files>(
     ensures some { IfOk result (λ o. 512 ≤ length o.bytes) }
     ensures most { IfOk result (λ o. length o.bytes ≤ 16777216) }
     ensures err { IfErr result (AreUnread (seen F.count F.told files.old files.new) (asked_as (AsDisk port) (Some name.now))) }
+    ensures asks { AsksEach (names_read (asked_as (AsDisk port) (Some name.now))) (asking F.told F.asked files.old files.new) result }
     ensures is_sound { F.sound files.old → F.sound files.new × IfErr result (AreLacking (F.told files.old) (asked_as (AsDisk port) (Some name.now))) }
 {
     let bytes = match read_named(files, name) {
@@ -110,6 +113,7 @@ fn read_uart<F: Files>(
     ensures device { IfOk result (λ d. IfSome (F.told files.old) (λ m. d ≡ device_of m config.now)) }
     ensures fresh { IfOk result (λ d. any_seen d ≡ 0) }
     ensures err { IfErr result (AreUnread (seen F.count F.told files.old files.new) (port_files port config.now)) }
+    ensures asks { AsksEach (names_read (port_files port config.now)) (asking F.told F.asked files.old files.new) result }
     ensures is_sound { F.sound files.old → F.sound files.new × IfErr result (AreLacking (F.told files.old) (port_files port config.now)) }
 {
     match read_input(alloc, files, port, &config.input) {
@@ -131,6 +135,7 @@ fn read_disk<F: Files>(
     ensures device { IfOk result (λ d. IfSome (F.told files.old) (λ m. d ≡ device_of m config.now)) }
     ensures fresh { IfOk result (λ d. any_seen d ≡ 0) }
     ensures err { IfErr result (AreUnread (seen F.count F.told files.old files.new) (port_files port config.now)) }
+    ensures asks { AsksEach (names_read (port_files port config.now)) (asking F.told F.asked files.old files.new) result }
     ensures is_sound { F.sound files.old → F.sound files.new × IfErr result (AreLacking (F.told files.old) (port_files port config.now)) }
 {
     let bad = match copy_of(alloc, &config.bad) {
@@ -159,6 +164,7 @@ fn read_device<F: Files>(
     ensures device { IfOk result (λ d. IfSome (F.told files.old) (λ m. d ≡ device_of m config.now)) }
     ensures fresh { IfOk result (λ d. any_seen d ≡ 0) }
     ensures err { IfErr result (AreUnread (seen F.count F.told files.old files.new) (port_files port config.now)) }
+    ensures asks { AsksEach (names_read (port_files port config.now)) (asking F.told F.asked files.old files.new) result }
     ensures is_sound { F.sound files.old → F.sound files.new × IfErr result (AreLacking (F.told files.old) (port_files port config.now)) }
 {
     match config.kind {
@@ -187,6 +193,8 @@ pub fn read_devices<F: Files>(
     ensures len { IfOk result (λ v. vec_len v ≡ length ports.now) }
     // The first file that is refused, the files blamed, or no memory.
     ensures err { IfErr result (AreUnread (seen F.count F.told files.old files.new) (ports_files 0 ports.now)) }
+    // The files are asked for in their order, each once, up to the first that something stands against.
+    ensures asks { AsksEach (names_read (ports_files 0 ports.now)) (asking F.told F.asked files.old files.new) result }
     // Sound files are blamed only where the first file that something stands against isn't there.
     ensures is_sound { F.sound files.old → F.sound files.new × IfErr result (AreLacking (F.told files.old) (ports_files 0 ports.now)) }
 {

@@ -3,8 +3,9 @@ ghost use Rattle.std.specs.Prelude.{◌≡◌, ◌≤◌, length, All, None, IfO
 ghost use Rattle.cos_parts.specs.AnyMasters.{any_reach, any_issued};
 ghost use Rattle.cos_parts.specs.AnyDevices.{any_seen};
 ghost use Rattle.outcomes.specs.Seen.{seen};
+ghost use Rattle.outcomes.specs.Asked.{asking, AsksEach};
 ghost use Rattle.cosim_inputs.specs.Limits.{IsWithinLimits};
-ghost use Rattle.cosim_inputs.specs.Inputs.{machine_files};
+ghost use Rattle.cosim_inputs.specs.Inputs.{machine_files, names_read};
 ghost use Rattle.cosim_inputs.specs.Fresh.{master_of, devices_of};
 ghost use Rattle.cosim_inputs.specs.Reads.{AreRead, AreUnread, AreLacking};
 
@@ -46,6 +47,8 @@ pub fn read_machine<F: Files>(
     ensures issued { IfOk result (λ p. any_issued p.master ≡ None) }
     // The first file that is refused, the files blamed, or no memory.
     ensures err { IfErr result (AreUnread (seen F.count F.told files.old files.new) (machine_files config.now)) }
+    // The files are asked for in their order, each once, up to the first that something stands against.
+    ensures asks { AsksEach (names_read (machine_files config.now)) (asking F.told F.asked files.old files.new) result }
     // Sound files are blamed only where the first file that something stands against isn't there.
     ensures is_sound { F.sound files.old → F.sound files.new × IfErr result (AreLacking (F.told files.old) (machine_files config.now)) }
 {

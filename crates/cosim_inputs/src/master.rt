@@ -2,8 +2,9 @@
 ghost use Rattle.std.specs.Prelude.{◌≡◌, ◌≤◌, ◌++◌, length, map, Some, None, IfOk, IfErr, IfSome};
 ghost use Rattle.cos_parts.specs.AnyMasters.{any_reach, any_issued};
 ghost use Rattle.outcomes.specs.Seen.{seen};
+ghost use Rattle.outcomes.specs.Asked.{asking, AsksEach};
 ghost use Rattle.cosim_inputs.specs.Limits.{ArePorts, IsMachine, IsWithinLimits};
-ghost use Rattle.cosim_inputs.specs.Inputs.{asked_as, master_files, AsImage, AsScript};
+ghost use Rattle.cosim_inputs.specs.Inputs.{asked_as, master_files, names_read, AsImage, AsScript};
 ghost use Rattle.cosim_inputs.specs.Fresh.{ram_of, bytes_in, window_of, windows_of, master_of};
 ghost use Rattle.cosim_inputs.specs.Reads.{AreRead, AreUnread, AreLacking};
 ghost use Rattle.cosim_inputs.specs.Masters.{IsScriptOf};
@@ -33,6 +34,7 @@ fn read_ram<F: Files>(
     ensures ram { IfOk result (λ r. IfSome (F.told files.old) (λ m. r ≡ ram_of m config.now)) }
     ensures size { IfOk result (λ r. length r ≡ config.now.ram) }
     ensures err { IfErr result (AreUnread (seen F.count F.told files.old files.new) (asked_as (AsImage config.now.ram) config.now.image)) }
+    ensures asks { AsksEach (names_read (asked_as (AsImage config.now.ram) config.now.image)) (asking F.told F.asked files.old files.new) result }
     ensures is_sound { F.sound files.old → F.sound files.new × IfErr result (AreLacking (F.told files.old) (asked_as (AsImage config.now.ram) config.now.image)) }
 {
     let mut ram = match Ram::make(alloc, config.ram) {
@@ -102,6 +104,7 @@ fn read_script<F: Files>(
     ensures reach { IfOk result (λ a. any_reach a ≡ ports) }
     ensures issued { IfOk result (λ a. any_issued a ≡ None) }
     ensures err { IfErr result (AreUnread (seen F.count F.told files.old files.new) (asked_as (AsScript ports) (Some name.now))) }
+    ensures asks { AsksEach (names_read (asked_as (AsScript ports) (Some name.now))) (asking F.told F.asked files.old files.new) result }
     ensures is_sound { F.sound files.old → F.sound files.new × IfErr result (AreLacking (F.told files.old) (asked_as (AsScript ports) (Some name.now))) }
 {
     let bytes = match read_named(files, name) {
@@ -135,6 +138,8 @@ pub fn read_master<F: Files>(
     ensures issued { IfOk result (λ a. any_issued a ≡ None) }
     // The first file that is refused, the files blamed, or no memory.
     ensures err { IfErr result (AreUnread (seen F.count F.told files.old files.new) (master_files config.now)) }
+    // The files are asked for in their order, each once, up to the first that something stands against.
+    ensures asks { AsksEach (names_read (master_files config.now)) (asking F.told F.asked files.old files.new) result }
     // Sound files are blamed only where the first file that something stands against isn't there.
     ensures is_sound { F.sound files.old → F.sound files.new × IfErr result (AreLacking (F.told files.old) (master_files config.now)) }
 {

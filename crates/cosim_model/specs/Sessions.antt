@@ -126,20 +126,23 @@ unsupported Machine false (Sync time) = Some (session_fault.Unsupported 6)
 unsupported Device false (Interrupt time vector line val) = Some (session_fault.Unsupported 5)
 unsupported _ _ _ = None
 
--- An answer, where no own request with its number and command is out. A nop is none.
+-- The own request whose answer a body would be, where one is out.
 
-abbrev pub own_of : Session → Body → Option OwnRequest
-own_of s (Sync time) = s.own_sync
-own_of s _ = s.own_other
+abbrev pub outstanding_request : Session → Body → Option OwnRequest
+outstanding_request s (Sync time) = s.own_sync
+outstanding_request s _ = s.own_other
 
 abbrev pub is_answer_of : Option OwnRequest → ℕ → Body → Bool
 is_answer_of None id b = false
 is_answer_of (Some q) id b = nat_eq id q.id && nat_eq (cmd_of b) (number_of q.cmd)
 
+-- An answer, where no own request with its number and command is out. A nop is none.
+
 abbrev pub stray_answer : Bool → Session → ℕ → Body → Option SessionFault
 stray_answer false s id b = None
 stray_answer true s id Nop = None
-stray_answer true s id b = fault_if (not (is_answer_of (own_of s b) id b)) (session_fault.StrayAnswer id (cmd_of b))
+stray_answer true s id b =
+    fault_if (not (is_answer_of (outstanding_request s b) id b)) (session_fault.StrayAnswer id (cmd_of b))
 
 -- A read's answer with code 0 and another length than its request.
 

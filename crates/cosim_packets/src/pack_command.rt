@@ -1,6 +1,7 @@
 // The packets of a text, one packet a line.
-ghost use Rattle.std.specs.Prelude.{◌≡◌, []};
+ghost use Rattle.std.specs.Prelude.{◌≡◌, ◌∷◌, []};
 ghost use Rattle.outcomes.specs.Seen.{seen};
+ghost use Rattle.outcomes.specs.Asked.{asking, AsksFor};
 ghost use Rattle.outcomes.specs.Outcomes.{OfFile, Performs};
 ghost use Rattle.cos_text.specs.Lines.{lines};
 ghost use Rattle.cosim_packets.specs.Packed.{Packed};
@@ -23,8 +24,10 @@ pub fn pack<F: Files, K: Sink>(
     files: &mut F,
     out: &mut K,
 ) -> Result<(), Stop<PackRefusal>>
-    ensures { Performs (OfFile name.now Packed (F.told files.old)) (seen F.count F.told files.old files.new)
+    ensures performs { Performs (OfFile name.now Packed (F.told files.old)) (seen F.count F.told files.old files.new)
         (seen K.count K.told out.old out.new) (F.sound files.old × K.sound out.old) (K.room out.old) result }
+    // It asks for its file, once.
+    ensures asks { AsksFor (λ m. name.now ∷ []) [] (asking F.told F.asked files.old files.new) result }
 {
     let text = read_file(files, name)?;
     let mut bytes = Octets::make(alloc);

@@ -1,5 +1,7 @@
 // The command `show`.
+ghost use Rattle.std.specs.Prelude.{◌∷◌, []};
 ghost use Rattle.outcomes.specs.Seen.{seen};
+ghost use Rattle.outcomes.specs.Asked.{asking, AsksFor};
 ghost use Rattle.outcomes.specs.Outcomes.{OfFile, Performs};
 ghost use Rattle.cosim_packets.specs.Shown.{Shown};
 
@@ -19,8 +21,10 @@ pub fn show<F: Files, K: Sink>(
     files: &mut F,
     out: &mut K,
 ) -> Result<(), Stop<ShowRefusal>>
-    ensures { Performs (OfFile name.now Shown (F.told files.old)) (seen F.count F.told files.old files.new)
+    ensures performs { Performs (OfFile name.now Shown (F.told files.old)) (seen F.count F.told files.old files.new)
         (seen K.count K.told out.old out.new) (F.sound files.old × K.sound out.old) (K.room out.old) result }
+    // It asks for its file, once.
+    ensures asks { AsksFor (λ m. name.now ∷ []) [] (asking F.told F.asked files.old files.new) result }
 {
     let bytes = read_file(files, name)?;
     let mut text = Octets::make(alloc);

@@ -1,5 +1,6 @@
 use crate::{PackRefusal, ShowRefusal, pack, show};
-use cos_base::{MemFiles, MemSink, NoMemory, Numbers, Octets};
+use cos_base::{NoMemory, Numbers, Octets};
+use cos_memory::{MemFiles, MemSink};
 use outcomes::Stop;
 use std::alloc::Global;
 use std::test::Fail;

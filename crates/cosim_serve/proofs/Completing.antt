@@ -1,55 +1,151 @@
-use Rattle.std.proofs.Common.{ℕ, ◌≡◌, List, [], ◌∷◌, IfSome, IsSomeAnd, refl, ap, sym, ◌∙◌, subst, arith, All, get_or}
+-- How a served link ends the command, and that Talk has one end.
+use Rattle.std.proofs.Common.{ℕ, ◌≡◌, ◌≤◌, true, false, List, [], ◌∷◌, length, drop, IfSome, IsSomeAnd, refl, ap, sym, ◌∙◌, subst, arith, All, get_or, Result, Ok, Err}
+use Rattle.std.specs.Prelude.{Option, Some, None}
 use Rattle.std.proofs.lemmas.List.Elements.{All-head}
-use Rattle.std.specs.declared.option.Option.{Option}
-use Rattle.std.specs.declared.option.Option.TheVariants.{Some, None}
-use Rattle.std.specs.declared.result.Result.{Result}
-use Rattle.std.specs.declared.result.Result.TheVariants.{Ok, Err}
-use Rattle.cos_base.specs.Counts.{Rose}
-use Rattle.cos_base.specs.Links.{Wire, IsWire, Grows}
-use Rattle.cos_base.specs.Networks.{Coming, Hands}
-use Rattle.cos_base.specs.Prefixes.{IsPrefix-length}
-use Rattle.end_device.specs.declared.fault.EndFault.{EndFault}
-use Rattle.end_device.specs.declared.fault.EndFault.TheVariants as fault
-use Rattle.cosim_model.specs.declared.values.Caps.{Caps}
-use Rattle.end_device.specs.Turns.{out_device}
-use Rattle.end_device.specs.Talk.{TalkEnds, talk, ends, ByTalk, IsByTalk}
+use Rattle.byte_streams.specs.Prefixes.{Grows}
+use Rattle.byte_streams.specs.Talks.{talk}
+use Rattle.byte_streams.proofs.Prefixes.{IsPrefix-length, IsPrefix-trans}
 use Rattle.byte_streams.proofs.Talks.{talk-once, talk-below}
-use Rattle.end_device.proofs.TurnLaws.{out-grows}
+use Rattle.cos_base.specs.Counts.{Rose}
+use Rattle.cos_base.specs.Links.{Wire, IsWire}
+use Rattle.cos_base.specs.Networks.{Coming, Hands}
+use Rattle.cosim_model.specs.declared.session.EndFault.TheVariants as fault
+use Rattle.cosim_model.specs.Parts.{DeviceModel}
+use Rattle.ends_model.specs.DeviceTurn.{DeviceEnd}
+use Rattle.rp_packet.specs.declared.fault.Cause.{Cause}
+use Rattle.device_turns.specs.Runs.{Taking, IsWholeRun, out_device}
+use Rattle.device_turns.specs.Ends.{Fault, is_clean}
+use Rattle.device_turns.specs.RunLaws.{out-grows, whole-same}
+use Rattle.end_device.specs.Talk.{EndsSo, TalkEnds, TalkStops, ByTalk, IsByTalk}
 use Rattle.end_device.specs.Serving.{ServeCounts, NotLink}
 use Rattle.outcomes.specs.declared.stop.Stop.TheVariants.{Refused, Outside, NoMemory}
 use Rattle.cosim_serve.specs.declared.refusal.DeviceRefusal.TheVariants.{Peer}
-use Rattle.cosim_serve.specs.Talks.{Ended, offered, ResultTalks, OfPeer, DoneOrMemory, TalksCleanly, Completes, served_result}
+use Rattle.cosim_serve.specs.Talks.{Ended, ResultTalks, OfPeer, DoneOrMemory, TalksCleanly, Completes, served_result}
 use Rattle.cosim_serve.specs.Causes.{BlamesSoundly, BlamesNone, LinkBlames}
 
--- Talk that ends cleanly ends in no fault
-pub clean-faults : (said : List ℕ → List ℕ) (f : EndFault) → TalksCleanly said → TalkEnds said offered (Err f) → ⊥
-clean-faults said f (x, is, clean, few) (y, also, faulty) =
-    let same = talk-once said (out_device offered) x y is also in
-    let bad : Ok tt ≡ Err f = sym clean ∙ ap (λ l. ends offered l) same ∙ faulty in
-    cc
+-- An end that ended well ended in no fault.
 
-pub clean-by : (said : List ℕ → List ℕ) (f : EndFault) → Grows said → OfPeer f → TalksCleanly said → ByTalk offered said (Err f) → ⊥
-clean-by said (fault.Ended taken) grows peer clean by = clean-faults said (fault.Ended taken) clean by
-clean-by said (fault.Truncated start held) grows peer clean by = clean-faults said (fault.Truncated start held) clean by
-clean-by said (fault.Unbuilt start) grows peer clean by = clean-faults said (fault.Unbuilt start) clean by
-clean-by said (fault.TooMuch taken) grows peer (x, is, clean, few) (k, read, much) =
-    let within = IsPrefix-length (talk said (out_device offered) k) x (talk-below said (out_device offered) k x grows (out-grows offered) is) in
-    omega (arith, within, read, much, few)
-clean-by said (fault.Link count) grows peer clean by = peer
-clean-by said fault.NoMemory grows peer clean by = peer
+unlike : {A : Type 0} (o : Option A) (a : A) → o ≡ None → o ≡ Some a → ⊥
+unlike None a none some = cc (some)
+unlike (Some b) a none some = cc (none)
 
--- a sound link with which Talk ends cleanly
-pub link-done : (said : List ℕ → List ℕ) (s : Ended) (before : ℕ) → Grows said → BlamesNone s → LinkBlames before s → TalksCleanly said → ResultTalks said s → DoneOrMemory s
-link-done said (Ok u) before grows sound blames clean talks = tt
-link-done said (Err NoMemory) before grows sound blames clean talks = tt
-link-done said (Err (Outside o n)) before grows sound blames clean talks = sound
-link-done said (Err (Refused (Peer port f))) before grows sound blames clean talks = clean-by said f grows talks.1 clean talks.2
+clean-once : {S : Type 0} (l : Taking S) (x : List ℕ) (f : Fault) → EndsSo l x (Ok tt) → EndsSo l x (Err f) → ⊥
+clean-once l x (fault.Ended n) well bad = let both : true ≡ false = sym well.2 ∙ bad.2 in absurd (cc (both))
+clean-once l x (fault.Truncated a b) well bad = let none = ap length well.1 in omega (arith, none, bad.2, bad.3)
+clean-once l x (fault.Malformed f) well bad = unlike l.core.fault _ well.0 bad.0
+clean-once l x (fault.Session f) well bad = unlike l.core.fault _ well.0 bad
+clean-once l x (fault.TooMuch n) well bad = bad
+clean-once l x (fault.Link n) well bad = bad
+clean-once l x (fault.LateWant a b) well bad = bad
+clean-once l x (fault.Astray n) well bad = bad
+clean-once l x fault.NoMemory well bad = bad
 
-pub link-completes : (told : Option Wire) (w : Wire) (s : Ended) (before : ℕ) → IfSome told IsWire → told ≡ Some w → BlamesNone s → LinkBlames before s → IfSome told (λ v. ResultTalks v.said s) → TalksCleanly w.said → DoneOrMemory s
-link-completes told w s before wire is sound blames talks clean =
-    let law : IsWire w = subst (λ o. IfSome o IsWire) is wire in
-    let by : ResultTalks w.said s = subst (λ o. IfSome o (λ v. ResultTalks v.said s)) is talks in
-    link-done w.said s before law.grows sound blames clean by
+module _ {S : Type 0} (d : DeviceModel S) (start : DeviceEnd S Cause) where
+  clean-faults : (said : List ℕ → List ℕ) (left : DeviceEnd S Cause) (f : Fault) → TalksCleanly d start said
+      → TalkEnds d start said left (Err f) → ⊥
+  clean-faults said left f clean bad =
+      let well = clean.talk in
+      let same = talk-once said (out_device d start) well.received bad.received well.talk bad.talk in
+      let leaf = whole-same d start bad.received well.leaf bad.leaf well.sent bad.sent
+      (subst (λ x. IsWholeRun d start x well.leaf well.sent) same well.whole) bad.whole in
+      clean-once bad.leaf bad.received f
+      (subst (λ l. EndsSo l bad.received (Ok tt)) leaf (subst (λ x. EndsSo well.leaf x (Ok tt)) same well.ends)) bad.ends
+
+  clean-by : (said : List ℕ → List ℕ) (left : DeviceEnd S Cause) (f : Fault) → Grows said → OfPeer f → TalksCleanly d start said
+      → ByTalk d start said left (Err f) → ⊥
+  clean-by said left (fault.Ended n) grows peer clean by = clean-faults said left (fault.Ended n) clean by
+  clean-by said left (fault.Truncated a b) grows peer clean by = clean-faults said left (fault.Truncated a b) clean by
+  clean-by said left (fault.Malformed f) grows peer clean by = clean-faults said left (fault.Malformed f) clean by
+  clean-by said left (fault.Session f) grows peer clean by = clean-faults said left (fault.Session f) clean by
+  clean-by said left (fault.TooMuch n) grows peer clean by =
+      let out = out_device d start in
+      let well = clean.talk in
+      let within = IsPrefix-length by.received well.received
+      (IsPrefix-trans by.received _ well.received by.within
+      (talk-below said out by.rounds well.received grows (out-grows d start) well.talk)) in
+      let few = clean.few in
+      omega (arith, within, by.count, by.much, few)
+  clean-by said left (fault.Link n) grows peer clean by = peer
+  clean-by said left fault.NoMemory grows peer clean by = peer
+  clean-by said left (fault.LateWant a b) grows peer clean by = by
+  clean-by said left (fault.Astray n) grows peer clean by = by
+
+  module _ (left : DeviceEnd S Cause) (port : ℕ) where
+    -- a sound link with which Talk ends well
+    link-done : (said : List ℕ → List ℕ) (s : Ended) → Grows said → BlamesNone s → TalksCleanly d start said
+        → ResultTalks d start left port said s → DoneOrMemory s
+    link-done said (Ok u) grows sound clean talks = tt
+    link-done said (Err NoMemory) grows sound clean talks = tt
+    link-done said (Err (Outside o n)) grows sound clean talks = sound
+    link-done said (Err (Refused (Peer p f))) grows sound clean talks = clean-by said left f grows talks.1 clean talks.2
+
+    pub link-completes : (told : Option Wire) (w : Wire) (s : Ended) → IfSome told IsWire → told ≡ Some w → BlamesNone s
+        → IfSome told (λ v. ResultTalks d start left port v.said s) → TalksCleanly d start w.said → DoneOrMemory s
+    link-completes told w s wire is sound talks clean =
+        let law : IsWire w = subst (λ o. IfSome o IsWire) is wire in
+        let by : ResultTalks d start left port w.said s =
+        subst (λ o. IfSome o (λ v. ResultTalks d start left port v.said s)) is talks in
+        link-done w.said s law.grows sound clean by
+
+    -- what a served link ends the command with
+
+    talks-of : (said : List ℕ → List ℕ) (r : Result Unit Fault) → ByTalk d start said left r
+        → ResultTalks d start left port said (served_result port r)
+    talks-of said (Ok u) by = by
+    talks-of said (Err (fault.Link n)) by = tt
+    talks-of said (Err fault.NoMemory) by = tt
+    talks-of said (Err (fault.Ended n)) by = (refl, tt, by)
+    talks-of said (Err (fault.Truncated a b)) by = (refl, tt, by)
+    talks-of said (Err (fault.Malformed f)) by = (refl, tt, by)
+    talks-of said (Err (fault.Session f)) by = (refl, tt, by)
+    talks-of said (Err (fault.TooMuch n)) by = (refl, tt, by)
+    talks-of said (Err (fault.LateWant a b)) by = (refl, tt, by)
+    talks-of said (Err (fault.Astray n)) by = (refl, tt, by)
+
+    talks-told : (told : Option Wire) (r : Result Unit Fault) → IsByTalk d start told left r
+        → IfSome told (λ w. ResultTalks d start left port w.said (served_result port r))
+    talks-told None r by = tt
+    talks-told (Some w) r by = talks-of w.said r by
+
+    pub result-talks : (told : Option Wire) (r : Result Unit Fault) (s : Ended) → s ≡ served_result port r
+        → IsByTalk d start told left r → IfSome told (λ w. ResultTalks d start left port w.said s)
+    result-talks told r s is by =
+        subst (λ x. IfSome told (λ w. ResultTalks d start left port w.said x)) (sym is) (talks-told told r by)
+
+-- the causes
+
+blames-of : (port before now : ℕ) (r : Result Unit Fault) → ServeCounts before now r → LinkBlames port before now (served_result port r)
+blames-of port before now (Ok u) counts = tt
+blames-of port before now (Err (fault.Link n)) counts = (refl, subst (λ m. Rose before m) (sym counts.1) counts.0.1, counts.1)
+blames-of port before now (Err fault.NoMemory) counts = tt
+blames-of port before now (Err (fault.Ended n)) counts = tt
+blames-of port before now (Err (fault.Truncated a b)) counts = tt
+blames-of port before now (Err (fault.Malformed f)) counts = tt
+blames-of port before now (Err (fault.Session f)) counts = tt
+blames-of port before now (Err (fault.TooMuch n)) counts = tt
+blames-of port before now (Err (fault.LateWant a b)) counts = tt
+blames-of port before now (Err (fault.Astray n)) counts = tt
+
+sound-of : (port : ℕ) (r : Result Unit Fault) → NotLink r → BlamesNone (served_result port r)
+sound-of port (Ok u) s = tt
+sound-of port (Err (fault.Link n)) s = s
+sound-of port (Err fault.NoMemory) s = tt
+sound-of port (Err (fault.Ended n)) s = tt
+sound-of port (Err (fault.Truncated a b)) s = tt
+sound-of port (Err (fault.Malformed f)) s = tt
+sound-of port (Err (fault.Session f)) s = tt
+sound-of port (Err (fault.TooMuch n)) s = tt
+sound-of port (Err (fault.LateWant a b)) s = tt
+sound-of port (Err (fault.Astray n)) s = tt
+
+pub result-blames : (port before now : ℕ) (r : Result Unit Fault) (s : Ended) → s ≡ served_result port r → ServeCounts before now r
+    → LinkBlames port before now s
+result-blames port before now r s is counts = subst (LinkBlames port before now) (sym is) (blames-of port before now r counts)
+
+pub result-sound : (port : ℕ) (r : Result Unit Fault) (s : Ended) → s ≡ served_result port r → NotLink r → BlamesNone s
+result-sound port r s is sound = subst BlamesNone (sym is) (sound-of port r sound)
+
+-- over a network
 
 pub sound-result : {L : Type 0} (old : Option (Coming L)) (s : Ended) → BlamesNone s → BlamesSoundly old s
 sound-result old (Err (Outside o n)) sound = absurd sound
@@ -66,58 +162,12 @@ pub heads : {L : Type 0} (l m : L) (xs ys : List L) → l ∷ xs ≡ m ∷ ys �
 heads l m xs ys e = ap (λ ls. get_or ls 0 l) e
 
 -- the command is done, by its link
-pub hands-completes : {L : Type 0} (told : L → Option Wire) (old now : Option (Coming L)) (names : List (List ℕ)) (l : L) (s : Ended) → Hands old now names (Ok l) → ((w : Wire) → told l ≡ Some w → TalksCleanly w.said → DoneOrMemory s) → Completes told old s
-hands-completes told None now names l s hands done = tt
-hands-completes told (Some t) now names l s (rest, first, is) done = λ m more w coming tells clean.
+pub hands-completes : {S L : Type 0} (d : DeviceModel S) (start : DeviceEnd S Cause) (told : L → Option Wire) (old now : Option (Coming L)) (names : List (List ℕ)) (l : L) (s : Ended) → Hands old now names (Ok l) → ((w : Wire) → told l ≡ Some w → TalksCleanly d start w.said → DoneOrMemory s) → Completes d start told old s
+hands-completes d start told None now names l s hands done = tt
+hands-completes d start told (Some t) now names l s (rest, first, is) done = λ m more w coming tells clean.
     let same = heads l m rest more (sym first ∙ coming) in
     done w (ap told same ∙ tells) clean
 
-pub failed-completes : {L : Type 0} (told : L → Option Wire) (old : Option (Coming L)) (s : Ended) → IsSomeAnd old (λ t. t.coming ≡ []) → Completes told old s
-failed-completes told None s none = tt
-failed-completes told (Some t) s none = λ m more w coming tells clean. let bad = sym none ∙ coming in absurd (cc)
-
-pub talks-of : (said : List ℕ → List ℕ) (r : Result Unit EndFault) → ByTalk offered said r → ResultTalks said (served_result r)
-talks-of said (Ok u) by = by
-talks-of said (Err (fault.Link count)) by = tt
-talks-of said (Err fault.NoMemory) by = tt
-talks-of said (Err (fault.Ended taken)) by = (refl, tt, by)
-talks-of said (Err (fault.Truncated start held)) by = (refl, tt, by)
-talks-of said (Err (fault.Unbuilt start)) by = (refl, tt, by)
-talks-of said (Err (fault.TooMuch taken)) by = (refl, tt, by)
-
-pub talks-told : (told : Option Wire) (r : Result Unit EndFault) → IsByTalk offered told r → IfSome told (λ w. ResultTalks w.said (served_result r))
-talks-told None r by = tt
-talks-told (Some w) r by = talks-of w.said r by
-
-pub blames-of : (before now : ℕ) (r : Result Unit EndFault) → ServeCounts before now r → LinkBlames before (served_result r)
-blames-of before now (Ok u) counts = tt
-blames-of before now (Err (fault.Link count)) counts = (refl, subst (λ n. Rose before n) (sym counts.1) counts.0.1)
-blames-of before now (Err fault.NoMemory) counts = tt
-blames-of before now (Err (fault.Ended taken)) counts = tt
-blames-of before now (Err (fault.Truncated start held)) counts = tt
-blames-of before now (Err (fault.Unbuilt start)) counts = tt
-blames-of before now (Err (fault.TooMuch taken)) counts = tt
-
-pub sound-of : (r : Result Unit EndFault) → NotLink r → BlamesNone (served_result r)
-sound-of (Ok u) s = tt
-sound-of (Err (fault.Link count)) s = s
-sound-of (Err fault.NoMemory) s = tt
-sound-of (Err (fault.Ended taken)) s = tt
-sound-of (Err (fault.Truncated start held)) s = tt
-sound-of (Err (fault.Unbuilt start)) s = tt
-sound-of (Err (fault.TooMuch taken)) s = tt
-
--- the same of a status that is given by an equation
-pub result-talks : (told : Option Wire) (offer : Caps) (r : Result Unit EndFault) (s : Ended) → offer ≡ offered → s ≡ served_result r → IsByTalk offer told r → IfSome told (λ w. ResultTalks w.said s)
-result-talks told offer r s all is by =
-    subst (λ x. IfSome told (λ w. ResultTalks w.said x)) (sym is) (talks-told told r (subst (λ o. IsByTalk o told r) all by))
-
-pub result-blames : (before now : ℕ) (r : Result Unit EndFault) (s : Ended) → s ≡ served_result r → ServeCounts before now r → LinkBlames before s
-result-blames before now r s is counts = subst (LinkBlames before) (sym is) (blames-of before now r counts)
-
-pub result-sound : (r : Result Unit EndFault) (s : Ended) → s ≡ served_result r → NotLink r → BlamesNone s
-result-sound r s is sound = subst BlamesNone (sym is) (sound-of r sound)
-
-pub result-completes : (told : Option Wire) (w : Wire) (offer : Caps) (r : Result Unit EndFault) (s : Ended) (before now : ℕ) → offer ≡ offered → s ≡ served_result r → IfSome told IsWire → told ≡ Some w → NotLink r → ServeCounts before now r → IsByTalk offer told r → TalksCleanly w.said → DoneOrMemory s
-result-completes told w offer r s before now all is wire tells sound counts by clean =
-    link-completes told w s before wire tells (result-sound r s is sound) (result-blames before now r s is counts) (result-talks told offer r s all is by) clean
+pub failed-completes : {S L : Type 0} (d : DeviceModel S) (start : DeviceEnd S Cause) (told : L → Option Wire) (old : Option (Coming L)) (s : Ended) → IsSomeAnd old (λ t. t.coming ≡ []) → Completes d start told old s
+failed-completes d start told None s none = tt
+failed-completes d start told (Some t) s none = λ m more w coming tells clean. let bad = sym none ∙ coming in absurd (cc)

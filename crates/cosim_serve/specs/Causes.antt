@@ -17,27 +17,28 @@ IsHanded (Some net) l = (rest : List _) × (net.coming ≡ l ∷ rest)
 
 -- The network is blamed only where its count rose in this call, up to the count that is shown; a link only where its
 -- count rose above the one with which it was handed out. Otherwise the network's count stands.
-abbrev pub NetBlames : {L : Type 0} → (L → ℕ) → Seen (Coming L) → Ended → Type 0
-NetBlames count net (Err (Outside object.Net n)) = IsBlamed net n
-NetBlames {L} count net (Err (Outside (object.Link port) n)) = CountStands net × (port ≡ 0) × (l : L)
+abbrev pub NetBlames : {L : Type 0} → ℕ → (L → ℕ) → Seen (Coming L) → Ended → Type 0
+NetBlames port count net (Err (Outside object.Net n)) = IsBlamed net n
+NetBlames {L} port count net (Err (Outside (object.Link p) n)) = CountStands net × (p ≡ port) × (l : L)
     × IsHanded net.old l × Rose (count l) n
-NetBlames count net (Ok u) = CountStands net
-NetBlames count net (Err (Refused r)) = CountStands net
-NetBlames count net (Err NoMemory) = CountStands net
-NetBlames count net (Err (Outside object.Files n)) = ⊥
-NetBlames count net (Err (Outside object.Out n)) = ⊥
-NetBlames count net (Err (Outside object.Spawner n)) = ⊥
+NetBlames port count net (Ok u) = CountStands net
+NetBlames port count net (Err (Refused r)) = CountStands net
+NetBlames port count net (Err NoMemory) = CountStands net
+NetBlames port count net (Err (Outside object.Files n)) = ⊥
+NetBlames port count net (Err (Outside object.Out n)) = ⊥
+NetBlames port count net (Err (Outside object.Spawner n)) = ⊥
 
--- what is known of one link that was served, and had this count before
-abbrev pub LinkBlames : ℕ → Ended → Type 0
-LinkBlames before (Err (Outside (object.Link port) n)) = (port ≡ 0) × Rose before n
-LinkBlames before (Ok u) = Unit {0}
-LinkBlames before (Err (Refused r)) = Unit {0}
-LinkBlames before (Err NoMemory) = Unit {0}
-LinkBlames before (Err (Outside object.Net n)) = ⊥
-LinkBlames before (Err (Outside object.Files n)) = ⊥
-LinkBlames before (Err (Outside object.Out n)) = ⊥
-LinkBlames before (Err (Outside object.Spawner n)) = ⊥
+-- What is known of one link that was served, by its count before and after: it is blamed only where that rose, and what is
+-- told is the count that it has then.
+abbrev pub LinkBlames : ℕ → ℕ → ℕ → Ended → Type 0
+LinkBlames port before now (Err (Outside (object.Link p) n)) = (p ≡ port) × Rose before n × (n ≡ now)
+LinkBlames port before now (Ok u) = Unit {0}
+LinkBlames port before now (Err (Refused r)) = Unit {0}
+LinkBlames port before now (Err NoMemory) = Unit {0}
+LinkBlames port before now (Err (Outside object.Net n)) = ⊥
+LinkBlames port before now (Err (Outside object.Files n)) = ⊥
+LinkBlames port before now (Err (Outside object.Out n)) = ⊥
+LinkBlames port before now (Err (Outside object.Spawner n)) = ⊥
 
 -- Over a sound network it is blamed only where no link is to come, and no link is blamed.
 abbrev pub BlamesSoundly : {L : Type 0} → Option (Coming L) → Ended → Type 0

@@ -1,4 +1,4 @@
+pub mod Talks
 pub mod Causes
 pub mod Names
 pub mod Serves
-pub mod Talks

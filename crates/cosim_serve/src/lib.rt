@@ -1,11 +1,8 @@
-//! The command `device`: it connects to a socket and serves the link by a device end.
+//! Devices served over a network: a device end connects to a socket and serves the link.
 #![tactic(auto)]
 
 mod command;
 mod refusal;
 
-pub use command::device;
+pub use command::{serve_link, serve_socket};
 pub use refusal::DeviceRefusal;
-
-#[cfg(test)]
-mod tests;

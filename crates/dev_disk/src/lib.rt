@@ -4,8 +4,6 @@
 mod disk;
 mod engine;
 mod register;
-#[cfg(test)]
-mod tests;
 
 pub use disk::Disk;
 pub use engine::Engine;

@@ -4,8 +4,6 @@
 mod dma;
 mod engine;
 mod register;
-#[cfg(test)]
-mod tests;
 
 pub use dma::Dma;
 pub use engine::Engine;

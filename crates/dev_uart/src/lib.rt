@@ -2,8 +2,6 @@
 #![tactic(auto)]
 
 mod register;
-#[cfg(test)]
-mod tests;
 mod uart;
 
 pub use register::Register;

@@ -63,9 +63,6 @@ impl<D: Device> Parts<D> {
         ensures ok { OnOk result (self.new ≡ self.old ++ item ∷ []) }
         ensures err { OnErr result (self.new ≡ self.old) }
     {
-        match self.items.push(item) {
-            Ok(()) => Ok(()),
-            Err(_) => Err(NoMemory),
-        }
+        Ok(self.items.push(item)?)
     }
 }

@@ -1,9 +1,3 @@
-pub mod CallLaws
-pub mod FeedLaws
-pub mod FrontLaws
-pub mod ReadingLaws
-pub mod RunLaws
-pub mod SendLaws
-pub mod ServingLaws
-pub mod SpellingLaws
-pub mod TurnLaws
+mod ServingLaws
+mod TalkLaws
+mod StepLaws

@@ -1,9 +1,3 @@
-pub mod Ends
-pub mod Going
-pub mod Plain
-pub mod Reading
-pub mod Sending
-pub mod Serving
-pub mod Spelling
 pub mod Talk
-pub mod Turns
+pub mod Serving
+pub mod Going

@@ -1,49 +1,80 @@
 -- How a device end ends over received bytes, and how its talk with a link ends.
-use Rattle.std.specs.Prelude.{ℕ, ◌≡◌, ◌≤◌, Bool, true, false, List, [], ◌∷◌, length, drop}
-use Rattle.std.specs.declared.option.Option.{Option}
-use Rattle.std.specs.declared.option.Option.TheVariants.{Some, None}
-use Rattle.std.specs.declared.result.Result.{Result}
-use Rattle.std.specs.declared.result.Result.TheVariants.{Ok, Err}
-pub use Rattle.byte_streams.specs.Talks.{talk, IsTalk}
+use Rattle.std.specs.Prelude.{◌≡◌, ℕ, ◌≤◌, true, false, List, [], length, drop, Option, Some, None, Result, Ok, Err}
+use Rattle.byte_streams.specs.Prefixes.{IsPrefix}
+use Rattle.byte_streams.specs.Talks.{talk, IsTalk}
 use Rattle.cos_base.specs.Links.{Wire}
-use Rattle.end_device.specs.declared.fault.EndFault.{EndFault}
-use Rattle.end_device.specs.declared.fault.EndFault.TheVariants as fault
-use Rattle.cosim_model.specs.declared.values.Caps.{Caps}
-use Rattle.end_device.specs.Turns.{Core, fresh_core, every_turn, out_device}
+use Rattle.cosim_model.specs.declared.session.EndFault.TheVariants as fault
+use Rattle.cosim_model.specs.Parts.{DeviceModel}
+use Rattle.ends_model.specs.DeviceTurn.{DeviceEnd}
+use Rattle.rp_packet.specs.declared.fault.Cause.{Cause}
+use Rattle.device_turns.specs.Runs.{Taking, IsWholeRun, out_device}
+use Rattle.device_turns.specs.Ends.{End, Fault, IsPlaced, is_clean}
 
--- how an input ends of which so many bytes were taken and these were not: cleanly where the peer's hello came and nothing is left
-abbrev pub rest_ends : Bool → ℕ → List ℕ → Result Unit EndFault
-rest_ends true taken [] = Ok tt
-rest_ends false taken [] = Err (fault.Ended taken)
-rest_ends met taken (y ∷ ys) = Err (fault.Truncated taken (length (y ∷ ys)))
+-- The end took every turn that it could over the received bytes, and no more come: it ends so. An input ends well where the
+-- end is clean and has taken all; within a packet it ends in Truncated, and else in Ended. A malformed packet is told with
+-- its place.
+abbrev pub EndsSo : {S : Type 0} → Taking S → List ℕ → Result Unit Fault → Type 0
+EndsSo l x (Ok u) = (l.core.fault ≡ None) × (drop l.taken x ≡ []) × (is_clean l.core ≡ true)
+EndsSo l x (Err (fault.Ended taken)) = (l.core.fault ≡ None) × (drop l.taken x ≡ []) × (is_clean l.core ≡ false)
+    × (taken ≡ length x)
+EndsSo l x (Err (fault.Truncated start held)) = (l.core.fault ≡ None) × (start ≡ l.taken)
+    × (held ≡ length (drop l.taken x)) × (1 ≤ held)
+EndsSo l x (Err (fault.Malformed f)) = (l.core.fault ≡ Some (fault.Malformed f.cause))
+    × IsPlaced x (Some (fault.Malformed f))
+EndsSo l x (Err (fault.Session f)) = l.core.fault ≡ Some (fault.Session f)
+EndsSo l x (Err (fault.TooMuch taken)) = ⊥
+EndsSo l x (Err (fault.Link count)) = ⊥
+EndsSo l x (Err (fault.LateWant at got)) = ⊥
+EndsSo l x (Err (fault.Astray cmd)) = ⊥
+EndsSo l x (Err fault.NoMemory) = ⊥
 
--- the fault kept, or how the input ends
-abbrev pub kept_ends : Option EndFault → Bool → ℕ → List ℕ → Result Unit EndFault
-kept_ends (Some f) met taken rest = Err f
-kept_ends None met taken rest = rest_ends met taken rest
+-- its device and the calls of it are those of that run
+abbrev pub HasParts : {S : Type 0} → DeviceEnd S Cause → Taking S → Type 0
+HasParts e l = (e.device ≡ l.core.device) × (e.calls ≡ l.core.calls)
 
-abbrev pub core_ends : Core → List ℕ → Result Unit EndFault
-core_ends c received = kept_ends c.kept c.met c.taken (drop c.taken received)
+-- Talk of a device end with a link that says this comes to an end so, and leaves the device and calls.
+pub record TalkEnds {S : Type 0} (d : DeviceModel S) (start : DeviceEnd S Cause) (said : List ℕ → List ℕ)
+    (e : DeviceEnd S Cause) (r : Result Unit Fault) : Type 0 where
+  pub received : List ℕ
+  pub sent : List ℕ
+  pub leaf : Taking S
+  pub talk : IsTalk said (out_device d start) received
+  pub whole : IsWholeRun d start received leaf sent
+  pub ends : EndsSo leaf received r
+  pub parts : HasParts e leaf
 
--- How a fresh device end ends over received bytes if no more come, after every turn that it can take.
-abbrev pub ends : Caps → List ℕ → Result Unit EndFault
-ends offer received = core_ends (every_turn received (fresh_core offer)).core received
+-- So many bytes were received, the limit or more, and no packet is whole: they are a beginning of what Talk gives.
+pub record TalkStops {S : Type 0} (d : DeviceModel S) (start : DeviceEnd S Cause) (said : List ℕ → List ℕ)
+    (e : DeviceEnd S Cause) (taken : ℕ) : Type 0 where
+  pub received : List ℕ
+  pub sent : List ℕ
+  pub leaf : Taking S
+  pub rounds : ℕ
+  pub within : IsPrefix received (talk said (out_device d start) rounds)
+  pub whole : IsWholeRun d start received leaf sent
+  pub clear : leaf.core.fault ≡ None
+  pub count : length received ≡ taken
+  pub much : 1099511627776 ≤ taken
+  pub parts : HasParts e leaf
 
--- Talk of a device end ends so.
-abbrev pub TalkEnds : (List ℕ → List ℕ) → Caps → Result Unit EndFault → Type 0
-TalkEnds said offer result = (x : List ℕ) × IsTalk said (out_device offer) x × (ends offer x ≡ result)
-
--- The answer is Talk's. One that read too much may come earlier, over a part of what Talk gives. Nothing is said of want of memory, and of a link that failed.
-abbrev pub ByTalk : Caps → (List ℕ → List ℕ) → Result Unit EndFault → Type 0
-ByTalk offer said (Ok u) = TalkEnds said offer (Ok u)
-ByTalk offer said (Err (fault.Ended taken)) = TalkEnds said offer (Err (fault.Ended taken))
-ByTalk offer said (Err (fault.Truncated start held)) = TalkEnds said offer (Err (fault.Truncated start held))
-ByTalk offer said (Err (fault.Unbuilt start)) = TalkEnds said offer (Err (fault.Unbuilt start))
-ByTalk offer said (Err (fault.TooMuch taken)) = (k : ℕ) × (taken ≤ length (talk said (out_device offer) k)) × (1099511627776 ≤ taken)
-ByTalk offer said (Err (fault.Link count)) = Unit {0}
-ByTalk offer said (Err fault.NoMemory) = Unit {0}
+-- The answer is Talk's. One that read too much may come earlier. Nothing is said of want of memory, and of a link that
+-- failed.
+abbrev pub ByTalk :
+    {S : Type 0} → DeviceModel S → DeviceEnd S Cause → (List ℕ → List ℕ) → DeviceEnd S Cause → Result Unit Fault
+    → Type 0
+ByTalk d start said e (Err (fault.TooMuch taken)) = TalkStops d start said e taken
+ByTalk d start said e (Err (fault.Link count)) = Unit {0}
+ByTalk d start said e (Err fault.NoMemory) = Unit {0}
+ByTalk d start said e (Ok u) = TalkEnds d start said e (Ok u)
+ByTalk d start said e (Err (fault.Ended taken)) = TalkEnds d start said e (Err (fault.Ended taken))
+ByTalk d start said e (Err (fault.Truncated at held)) = TalkEnds d start said e (Err (fault.Truncated at held))
+ByTalk d start said e (Err (fault.Malformed f)) = TalkEnds d start said e (Err (fault.Malformed f))
+ByTalk d start said e (Err (fault.Session f)) = TalkEnds d start said e (Err (fault.Session f))
+ByTalk d start said e (Err (fault.LateWant at got)) = ⊥
+ByTalk d start said e (Err (fault.Astray cmd)) = ⊥
 
 -- the same for a link that may tell nothing
-abbrev pub IsByTalk : Caps → Option Wire → Result Unit EndFault → Type 0
-IsByTalk offer None result = Unit {0}
-IsByTalk offer (Some w) result = ByTalk offer w.said result
+abbrev pub IsByTalk :
+    {S : Type 0} → DeviceModel S → DeviceEnd S Cause → Option Wire → DeviceEnd S Cause → Result Unit Fault → Type 0
+IsByTalk d start None e r = Unit {0}
+IsByTalk d start (Some w) e r = ByTalk d start w.said e r

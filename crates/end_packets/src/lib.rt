@@ -7,8 +7,6 @@ mod access;
 mod bus_place;
 mod lanes;
 mod put;
-#[cfg(test)]
-mod tests;
 
 pub use access::{access_of, is_served, put_value, value_of};
 pub use bus_place::{BusPlace, Request};

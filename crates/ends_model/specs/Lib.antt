@@ -3,3 +3,4 @@ pub mod MachineTurn
 pub mod Answers
 pub mod World
 pub mod Traffic
+pub mod PortTraffic

@@ -4,7 +4,7 @@ use Rattle.std.specs.Prelude.{None, slice_get}
 use Rattle.process_network.specs.Network.{IsPrefix, Streams, sum_below}
 use Rattle.process_network.specs.Star.{StarWorld, StarStep, star_effective, star_effective_steps, hub_received, link}
 use Rattle.process_network.specs.StarTalk.{IsHubRun, StarTalk}
-use Rattle.process_network.specs.PacketStar.{HubEnd, LeafEnd, star_of, fresh_hub, written}
+use Rattle.process_network.specs.PacketStar.{HubEnd, LeafEnd, star_of, fresh_hub}
 use Rattle.ends_model.specs.declared.ends.Phase.TheVariants.{Done}
 use Rattle.cosim_model.specs.declared.values.Plan.{Plan}
 use Rattle.cosim_model.specs.Parts.{DeviceModel, MasterModel}
@@ -12,6 +12,7 @@ use Rattle.cosim_model.specs.Packets.{Packet, Codec, IsWritable}
 use Rattle.ends_model.specs.DeviceTurn.{DeviceEnd}
 use Rattle.ends_model.specs.MachineTurn.{MachineEnd}
 use Rattle.cosim_model.specs.Direct.{Direct, direct}
+use Rattle.ends_model.specs.PortTraffic.{traffic_out, traffic_back}
 use Rattle.ends_model.specs.Traffic.{wire_out, out_device}
 use Rattle.ends_model.specs.World.{Side, ends, machine_start, device_start, of_port, start, world}
 use Rattle.every_schedule.specs.Counts.{accesses_in, lonely_in, posted_in, packets_in}
@@ -24,10 +25,10 @@ module _ {M S F : Type 0} (k : MasterModel M) (d : DeviceModel S) (codec : Codec
   -- The traffic of port p, which has side and device x: the bytes to the device end, and those that it sends.
 
   abbrev pub bytes_out : ℕ → Side × S → List ℕ
-  bytes_out p x = written codec.write (wire_out x.0 p directly.history)
+  bytes_out p x = traffic_out d codec directly.history p x
 
   abbrev pub bytes_back : ℕ → Side × S → List ℕ
-  bytes_back p x = out_device d codec (device_start F x.0 x.1) (bytes_out p x)
+  bytes_back p x = traffic_back d codec directly.history p x
 
   -- The machine end is done, and all is as the direct machine leaves it.
   pub record IsEnd (w : StarWorld (HubEnd (MachineEnd M F)) (LeafEnd (DeviceEnd S F))) : Type 0 where

@@ -1,3 +1,4 @@
+pub mod Asking
 pub mod After
 pub mod Commands
 pub mod Performing

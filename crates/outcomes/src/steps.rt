@@ -1,6 +1,7 @@
 // The steps of a command: reading a file, printing a text, writing a file.
 ghost use Rattle.std.specs.Prelude.{◌≤◌, length, IfOk, IfErr};
 ghost use Rattle.outcomes.specs.Seen.{seen};
+ghost use Rattle.outcomes.specs.Asked.{asking, AsksOne};
 ghost use Rattle.outcomes.specs.Outcomes.{PrintsAll, PrintsBefore};
 ghost use Rattle.outcomes.specs.Steps.{IsRead, IsUnread, IsLacking, IsPrinted, IsRoomFor, IsWritten, BlamesNone};
 
@@ -11,6 +12,7 @@ use cos_base::{Failed, FileFault, Files, Octets, Sink};
 pub fn read_file<F: Files>(files: &mut F, name: &str) -> Result<Octets, FilesFailure>
     ensures ok { IfOk result (λ held. IsRead (seen F.count F.told files.old files.new) name.now held.bytes) }
     ensures err { IfErr result (λ e. IsUnread (seen F.count F.told files.old files.new) e) }
+    ensures asks { AsksOne name.now (asking F.told F.asked files.old files.new) result }
     ensures is_sound { F.sound files.old → F.sound files.new × IfErr result (λ e. IsLacking (F.told files.old) name.now e) }
 {
     match files.read(name) {
@@ -52,6 +54,7 @@ pub fn put_before<K: Sink>(out: &mut K, text: &[u8])
 /// Writes a file.
 pub fn write_file<F: Files>(files: &mut F, name: &str, bytes: &[u8]) -> Result<(), FilesFailure>
     ensures writes { IsWritten (seen F.count F.told files.old files.new) name.now bytes.now result }
+    ensures asks { AsksOne name.now (asking F.told F.asked files.old files.new) result }
     ensures is_sound { F.sound files.old → F.sound files.new × BlamesNone result }
 {
     match files.write(name, bytes) {

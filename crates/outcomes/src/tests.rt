@@ -1,5 +1,6 @@
 use crate::{FilesFailure, OutFailure, put_before, put_text, read_file, write_file};
-use cos_base::{MemFiles, MemSink, Numbers};
+use cos_base::Numbers;
+use cos_memory::{MemFiles, MemSink};
 use std::test::Fail;
 
 #[test]

@@ -1,7 +1,7 @@
 -- The hub of a star over links that only tell.
 use Rattle.std.proofs.Common.{◌≡◌, ℕ, zero, suc, ◌+◌, ◌<◌, ◌≤◌, ◌⊎◌, inl, inr, List, [], ◌++◌, drop, get_or, Option, Some, None, refl, sym, ap, ◌∙◌, subst, arith}
 use Rattle.std.proofs.lemmas.Option.{same_Some, none-some}
-use Rattle.process_network.specs.Network.{Streams, IsMonotone, IsRun, IsTalk}
+use Rattle.process_network.specs.Network.{Streams, IsMonotone, IsRun, NodeTalk}
 use Rattle.process_network.specs.Star.{Star, IsStarMonotone, to_leaf}
 use Rattle.process_network.specs.CalmRun.{one_if_some}
 use Rattle.process_network.specs.StarTalk.{IsHubRun, StarTalk}
@@ -33,11 +33,11 @@ module _ {H L : Type 0} (star : Star H L) (n : ℕ) (hub : H) where
       let t = turn_is (star.hub_turn r.0 x) h r.2 r.4 in
       (r.0, r.1, t.0, alone_run x k r.0 r.1 r.3, t.1, λ p. r.5 p ∙ ap (λ v. r.1 p ++ v) (t.2 p))
 
-  pub talk_alone : (said : ℕ → List ℕ → List ℕ) (k : ℕ) (x : Streams) → StarTalk star n hub said k x → IsTalk (hub_alone star n hub) 0 said k x
+  pub talk_alone : (said : ℕ → List ℕ → List ℕ) (k : ℕ) (x : Streams) → StarTalk star n hub said k x → NodeTalk (hub_alone star n hub) 0 said k x
   talk_alone said zero x t = t
   talk_alone said (suc k) x t = (t.0, t.1, t.2, t.3, talk_alone said k t.0 t.4, (run_alone t.0 t.1 t.2 t.3 t.5, ap (by_port n) t.6), t.7)
 
-  pub alone_talk : (said : ℕ → List ℕ → List ℕ) (k : ℕ) (x : Streams) → IsTalk (hub_alone star n hub) 0 said k x → StarTalk star n hub said k x
+  pub alone_talk : (said : ℕ → List ℕ → List ℕ) (k : ℕ) (x : Streams) → NodeTalk (hub_alone star n hub) 0 said k x → StarTalk star n hub said k x
   alone_talk said zero x t = t
   alone_talk said (suc k) x t = (t.0, t.1, t.2, t.3, alone_talk said k t.0 t.4, alone_run t.0 t.1 t.2 t.3 t.5.0, stops (star.hub_turn t.2 t.0) t.5.1, t.6)
 

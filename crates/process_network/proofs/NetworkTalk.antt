@@ -1,6 +1,6 @@
 -- A node that talks over honest links ends as in the network.
 use Rattle.std.proofs.Common.{◌≡◌, ℕ, zero, suc, ◌≢◌, ⊎_elim, List, [], ◌++◌, None, refl, sym, ap, ◌∙◌, subst, le_antisymm}
-use Rattle.process_network.specs.Network.{update, IsPrefix, Streams, Below, Network, IsMonotone, World, start, Step, after_all, IsQuiescent, IsRun, IsMaximalRun, IsClosed, IsTalk, only, IsHonest, IsStar, turns}
+use Rattle.process_network.specs.Network.{update, IsPrefix, Streams, Below, Network, IsMonotone, World, start, Step, after_all, IsQuiescent, IsRun, IsMaximalRun, IsClosed, NodeTalk, only, IsHonest, IsStar, turns}
 use Rattle.process_network.proofs.Prefixes.{prefix_eq, prefix_trans, prefix_of_nil, prefix_length, prefix_antisym, update_all, update_same}
 use Rattle.process_network.proofs.ProcessRuns.{below_refl, below_trans, runs_more, runs_same, run_below}
 use Rattle.process_network.proofs.ReachableWorlds.{IsFinal, Under, final_received, final_closed}
@@ -24,7 +24,7 @@ said_under net monotone h said honest z closed j y p = ⊎_elim
     (honest j)
 
 -- Each round stays below a closed z.
-pub talk_under : {S : Type 0} (net : Network S) → IsMonotone net → (h : ℕ) (said : ℕ → List ℕ → List ℕ) → IsHonest net h said → (z : ℕ → Streams) → IsClosed net z → (k : ℕ) (x : Streams) → IsTalk net h said k x → Below x (λ j. z j h)
+pub talk_under : {S : Type 0} (net : Network S) → IsMonotone net → (h : ℕ) (said : ℕ → List ℕ → List ℕ) → IsHonest net h said → (z : ℕ → Streams) → IsClosed net z → (k : ℕ) (x : Streams) → NodeTalk net h said k x → Below x (λ j. z j h)
 talk_under net monotone h said honest z closed zero x t j = prefix_trans (x j) (said j []) (z j h) (prefix_eq (t j)) (said_under net monotone h said honest z closed j [] (z h j, refl))
 talk_under net monotone h said honest z closed (suc k) x t j =
     let b = talk_under net monotone h said honest z closed k t.0 t.4 in
@@ -128,7 +128,7 @@ fixed_same {S} net monotone script quiescent h said honest star x n s o b run fi
         (run_below net monotone h x x (below_refl x) (m h) n (f.state h) s (f.sent h) o there.0 run.0 run.1).0
 
 -- Talk over honest links has its fixed point in f.
-pub talk_same : {S : Type 0} (net : Network S) (monotone : IsMonotone net) (script : List Step) → IsQuiescent net (after_all net (start net) script) → (h : ℕ) (said : ℕ → List ℕ → List ℕ) → IsHonest net h said → IsStar (after_all net (start net) script) h → (k : ℕ) (x : Streams) (n : ℕ) (s : S) (o : Streams) → IsTalk net h said k x → IsMaximalRun net h x n s o → ((j : ℕ) → x j ≡ said j (o j)) → (s ≡ (after_all net (start net) script).state h) × ((j : ℕ) → o j ≡ (after_all net (start net) script).sent h j) × ((j : ℕ) → x j ≡ (after_all net (start net) script).sent j h)
+pub talk_same : {S : Type 0} (net : Network S) (monotone : IsMonotone net) (script : List Step) → IsQuiescent net (after_all net (start net) script) → (h : ℕ) (said : ℕ → List ℕ → List ℕ) → IsHonest net h said → IsStar (after_all net (start net) script) h → (k : ℕ) (x : Streams) (n : ℕ) (s : S) (o : Streams) → NodeTalk net h said k x → IsMaximalRun net h x n s o → ((j : ℕ) → x j ≡ said j (o j)) → (s ≡ (after_all net (start net) script).state h) × ((j : ℕ) → o j ≡ (after_all net (start net) script).sent h j) × ((j : ℕ) → x j ≡ (after_all net (start net) script).sent j h)
 talk_same net monotone script quiescent h said honest star k x n s o t run fixed =
     fixed_same net monotone script quiescent h said honest star x n s o
     (talk_under net monotone h said honest (after_all net (start net) script).sent (final_closed net (after_all net (start net) script) (turns net script) (script_final net monotone script quiescent)) k x t)

@@ -1,6 +1,6 @@
 -- The hub over honest links ends as in the calm run.
 use Rattle.std.proofs.Common.{◌≡◌, ℕ, zero, suc, ◌≢◌, inl, inr, List, [], ◌++◌, length, map, Option, Some, None, slice_get, refl, sym, ap, ap₂, ◌∙◌, subst, arith}
-use Rattle.process_network.specs.Network.{IsPrefix, Streams, Below, Network, World, start, Step, after_all, IsQuiescent, IsRun, IsMaximalRun, IsTalk, only, IsHonest, IsStar, turns}
+use Rattle.process_network.specs.Network.{IsPrefix, Streams, Below, Network, World, start, Step, after_all, IsQuiescent, IsRun, IsMaximalRun, NodeTalk, only, IsHonest, IsStar, turns}
 use Rattle.process_network.specs.Star.{Star, IsStarMonotone, Link, StarNode, leaf_of, sent_at, view, to_leaf, hub_result, leaf_result, star_network, net_step}
 use Rattle.process_network.specs.Star.StarNode.{Hub, Leaf, Absent}
 use Rattle.process_network.specs.CalmRun.{Calm, Move, traffic_at, calm_all, calm_start, IsAtRest, script_of, all_delivered}
@@ -117,7 +117,7 @@ module _ {H L : Type 0} (star : Star H L) (monotone : IsStarMonotone star) (hub 
       let r = drive_same net (star_monotone star monotone hub leaves) script quiescent 0 (shift_said said) (honest_net star hub leaves said honest) is_star (shift x) k (Hub h) (shift o) (below_net x b) (shift_received x o hub_received) (hub_runs_net star hub leaves x k h o run) (ap (hub_result (length leaves)) stop) in
       (same_state h r.0, λ p. r.1 (suc p) ∙ out_is p)
 
-  talk_net : (k : ℕ) (x : Streams) → StarTalk star (length leaves) hub said k x → IsTalk net 0 (shift_said said) k (shift x)
+  talk_net : (k : ℕ) (x : Streams) → StarTalk star (length leaves) hub said k x → NodeTalk net 0 (shift_said said) k (shift x)
   talk_net zero x t = at
     where
       at : (j : ℕ) → shift x j ≡ shift_said said j []

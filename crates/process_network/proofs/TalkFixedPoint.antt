@@ -1,6 +1,6 @@
 -- Talk over honest links comes to a fixed point.
 use Rattle.std.proofs.Common.{◌≡◌, ℕ, zero, suc, ◌+◌, ◌<◌, ◌≤◌, ⊎_elim, List, [], ◌++◌, length, Option, Some, None, refl, sym, ◌∙◌, subst, arith, eq-or-lt_of_le, le_of_suc-le-suc}
-use Rattle.process_network.specs.Network.{IsPrefix, Streams, Below, Network, IsMonotone, IsRun, IsMaximalRun, IsClosed, IsTalk, only, IsHonest, sum_below}
+use Rattle.process_network.specs.Network.{IsPrefix, Streams, Below, Network, IsMonotone, IsRun, IsMaximalRun, IsClosed, NodeTalk, only, IsHonest, sum_below}
 use Rattle.process_network.proofs.Prefixes.{prefix_trans, prefix_eq, prefix_length, prefix_antisym, prefix_of_nil, update_same, le_or_lt}
 use Rattle.process_network.proofs.ProcessRuns.{run_below}
 use Rattle.process_network.proofs.Sums.{sum_le}
@@ -46,13 +46,13 @@ module _ {S : Type 0} (net : Network S) (monotone : IsMonotone net) (z : ℕ →
     record Round : Type 0 where
       rounds : ℕ
       given : Streams
-      talk : IsTalk net h said rounds given
+      talk : NodeTalk net h said rounds given
       turns : ℕ
       state : S
       sent : Streams
       run : IsMaximalRun net h given turns state sent
 
-    round_of : (k : ℕ) (x : Streams) → IsTalk net h said k x → Round
+    round_of : (k : ℕ) (x : Streams) → NodeTalk net h said k x → Round
     round_of k x t =
         let r = run_out h x (talk_under net monotone h said honest z closed k x t) in
         record { rounds = k; given = x; talk = t; turns = r.0; state = r.1; sent = r.2; run = r.3 }
@@ -60,7 +60,7 @@ module _ {S : Type 0} (net : Network S) (monotone : IsMonotone net) (z : ℕ →
     next_given : Round → Streams
     next_given r j = said j (r.sent j)
 
-    next_talk : (r : Round) → IsTalk net h said (suc r.rounds) (next_given r)
+    next_talk : (r : Round) → NodeTalk net h said (suc r.rounds) (next_given r)
     unfolding next_given
     next_talk r = (r.given, r.turns, r.state, r.sent, r.talk, r.run, λ j. refl)
 
@@ -119,7 +119,7 @@ module _ {S : Type 0} (net : Network S) (monotone : IsMonotone net) (z : ℕ →
           (le_or_lt (total (next_given r)) (total r.given))
 
       -- Some round gives what the next one gives.
-      pub talk_settles : (k : ℕ) × (x : Streams) × (t : ℕ) × (s : S) × (o : Streams) × IsTalk net h said k x × IsMaximalRun net h x t s o × ((j : ℕ) → x j ≡ said j (o j))
+      pub talk_settles : (k : ℕ) × (x : Streams) × (t : ℕ) × (s : S) × (o : Streams) × NodeTalk net h said k x × IsMaximalRun net h x t s o × ((j : ℕ) → x j ≡ said j (o j))
       talk_settles =
           let r = search (sum_below n (λ j. length (z j h))) first_round first_grows (omega arith) in
           (r.0.rounds, r.0.given, r.0.turns, r.0.state, r.0.sent, r.0.talk, r.0.run, r.1)

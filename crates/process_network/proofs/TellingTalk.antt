@@ -1,6 +1,6 @@
 -- A process that sends a bounded number of messages comes to a fixed point over links that only tell.
 use Rattle.std.proofs.Common.{◌≡◌, ℕ, zero, suc, ◌<◌, ◌≤◌, ◌⊎◌, inl, inr, ⊎_elim, List, [], ◌++◌, length, refl, sym, ap, ◌∙◌, subst, arith, le_antisymm, le_of_eq, eq-or-lt_of_le, le_of_suc-le-suc, append-nil}
-use Rattle.process_network.specs.Network.{Streams, Below, Network, IsMonotone, IsRun, IsMaximalRun, IsTalk, sum_below}
+use Rattle.process_network.specs.Network.{Streams, Below, Network, IsMonotone, IsRun, IsMaximalRun, NodeTalk, sum_below}
 use Rattle.process_network.specs.TellingLinks.{IsTelling, AlwaysEnds, SendsBounded, IsFixed, IsFirstFixed}
 use Rattle.process_network.proofs.Prefixes.{prefix_length, prefix_antisym, le_or_lt}
 use Rattle.process_network.proofs.ProcessRuns.{runs_more, runs_same, runs_max, run_below}
@@ -15,7 +15,7 @@ maximal_same net h x y e k n s t o u a b =
     (same, r.0, r.1)
 
 -- A round of a talk is one.
-pub talk_same_round : {S : Type 0} (net : Network S) (h : ℕ) (said : ℕ → List ℕ → List ℕ) (k : ℕ) (x y : Streams) → IsTalk net h said k x → IsTalk net h said k y → (j : ℕ) → x j ≡ y j
+pub talk_same_round : {S : Type 0} (net : Network S) (h : ℕ) (said : ℕ → List ℕ → List ℕ) (k : ℕ) (x y : Streams) → NodeTalk net h said k x → NodeTalk net h said k y → (j : ℕ) → x j ≡ y j
 talk_same_round net h said zero x y a b j = a j ∙ sym (b j)
 talk_same_round net h said (suc k) x y a b j =
     let r = maximal_same net h a.0 b.0 (talk_same_round net h said k a.0 b.0 a.4 b.4) a.1 b.1 a.2 b.2 a.3 b.3 a.5 b.5 in
@@ -52,7 +52,7 @@ module _ {S : Type 0} (net : Network S) (monotone : IsMonotone net) (h : ℕ) (s
   record Round : Type 0 where
     number : ℕ
     given : Streams
-    talk : IsTalk net h said number given
+    talk : NodeTalk net h said number given
     turns : ℕ
     state : S
     sent : Streams
@@ -61,11 +61,11 @@ module _ {S : Type 0} (net : Network S) (monotone : IsMonotone net) (h : ℕ) (s
   next_given : Round → Streams
   next_given r j = said j (r.sent j)
 
-  next_talk : (r : Round) → IsTalk net h said (suc r.number) (next_given r)
+  next_talk : (r : Round) → NodeTalk net h said (suc r.number) (next_given r)
   unfolding next_given
   next_talk r = (r.given, r.turns, r.state, r.sent, r.talk, r.run, λ j. refl)
 
-  round_of : (k : ℕ) (x : Streams) → IsTalk net h said k x → Round
+  round_of : (k : ℕ) (x : Streams) → NodeTalk net h said k x → Round
   round_of k x t = let r = ends x in record { number = k; given = x; talk = t; turns = r.0; state = r.1; sent = r.2; run = r.3 }
 
   next_round : Round → Round
@@ -97,7 +97,7 @@ module _ {S : Type 0} (net : Network S) (monotone : IsMonotone net) (h : ℕ) (s
       ⊎_elim (λ (s : j ≡ m). subst (λ k. g k ≤ f k) (sym s) (omega arith)) (λ (k : j < m). sums_same m f g l (omega arith) j k) (eq-or-lt_of_le (le_of_suc-le-suc i))
 
   -- Past the ports each round gives what the link gives for nothing.
-  given_past : (k : ℕ) (x : Streams) → IsTalk net h said k x → (j : ℕ) → ports ≤ j → x j ≡ said j []
+  given_past : (k : ℕ) (x : Streams) → NodeTalk net h said k x → (j : ℕ) → ports ≤ j → x j ≡ said j []
   given_past zero x t j l = t j
   given_past (suc k) x t j l = t.6 j ∙ ap (said j) (none_past t.0 t.1 t.2 t.3 t.5.0 j l)
 
@@ -111,7 +111,7 @@ module _ {S : Type 0} (net : Network S) (monotone : IsMonotone net) (h : ℕ) (s
 
   -- No round before this one is fixed.
   IsEarliest : Round → Type 0
-  IsEarliest r = (i : ℕ) (y : Streams) (m : ℕ) (t : S) (u : Streams) → i < r.number → IsTalk net h said i y → IsMaximalRun net h y m t u → IsFixed said y u → ⊥
+  IsEarliest r = (i : ℕ) (y : Streams) (m : ℕ) (t : S) (u : Streams) → i < r.number → NodeTalk net h said i y → IsMaximalRun net h y m t u → IsFixed said y u → ⊥
 
   -- Where the next round gives more bytes, this one is not fixed either.
   next_earliest : (r : Round) → IsEarliest r → total r.given < total (next_given r) → IsEarliest (next_round r)
@@ -120,7 +120,7 @@ module _ {S : Type 0} (net : Network S) (monotone : IsMonotone net) (h : ℕ) (s
     where
       here : i ≡ r.number → ⊥
       here e =
-          let same = talk_same_round net h said r.number r.given y r.talk (subst (λ k. IsTalk net h said k y) e talk) in
+          let same = talk_same_round net h said r.number r.given y r.talk (subst (λ k. NodeTalk net h said k y) e talk) in
           let q = maximal_same net h r.given y same r.turns m r.state t r.sent u r.run run in
           let sums : sum_below ports (λ j. length (said j (r.sent j))) ≡ sum_below ports (λ j. length (r.given j)) =
           sum_same ports (λ j. length (said j (r.sent j))) (λ j. length (r.given j)) (λ j _. ap length (ap (said j) (q.2 j) ∙ sym (fixed j) ∙ sym (same j))) in

@@ -104,12 +104,12 @@ abbrev pub IsClosed : {S : Type 0} → Network S → (ℕ → Streams) → Type 
 IsClosed {S} net z =
     (i : ℕ) → (n : ℕ) × (s : S) × (o : Streams) × IsMaximalRun net i (λ j. z j i) n s o × Below o (z i)
 
--- Node h talks over links that are functions: `said j y` is all that link j gives for sent bytes y. `IsTalk k x`: x is
+-- Node h talks over links that are functions: `said j y` is all that link j gives for sent bytes y. `NodeTalk k x`: x is
 -- what the links gave after k rounds, in each of which the node takes every turn that it can.
-abbrev pub IsTalk : {S : Type 0} → Network S → ℕ → (ℕ → List ℕ → List ℕ) → ℕ → Streams → Type 0
-IsTalk net h said zero x = (j : ℕ) → x j ≡ said j []
-IsTalk {S} net h said (suc k) x =
-    (x₀ : Streams) × (n : ℕ) × (s : S) × (o : Streams) × IsTalk net h said k x₀ × IsMaximalRun net h x₀ n s o
+abbrev pub NodeTalk : {S : Type 0} → Network S → ℕ → (ℕ → List ℕ → List ℕ) → ℕ → Streams → Type 0
+NodeTalk net h said zero x = (j : ℕ) → x j ≡ said j []
+NodeTalk {S} net h said (suc k) x =
+    (x₀ : Streams) × (n : ℕ) × (s : S) × (o : Streams) × NodeTalk net h said k x₀ × IsMaximalRun net h x₀ n s o
     × ((j : ℕ) → x j ≡ said j (o j))
 
 -- What a node reads to which h alone sends.

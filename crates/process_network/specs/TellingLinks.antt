@@ -1,6 +1,6 @@
 -- One process over links that only tell what they give: more sent bytes give more, and nothing else is known of them.
 use Rattle.std.specs.Prelude.{◌≡◌, ℕ, suc, ◌+◌, ◌<◌, ◌≤◌, ◌⊎◌, List, [], Option, Some, None}
-use Rattle.process_network.specs.Network.{IsPrefix, Streams, Network, IsRun, IsMaximalRun, IsTalk}
+use Rattle.process_network.specs.Network.{IsPrefix, Streams, Network, IsRun, IsMaximalRun, NodeTalk}
 use Rattle.process_network.specs.Star.{Star, to_leaf}
 use Rattle.process_network.specs.CalmRun.{one_if_some}
 use Rattle.process_network.specs.PacketStar.{Ends, HubEnd, star_of, fresh_hub}
@@ -31,11 +31,11 @@ IsFixed said x o = (j : ℕ) → x j ≡ said j (o j)
 -- Round k of the talk gives what the next one gives, and no earlier round does.
 pub record IsFirstFixed {S : Type 0} (net : Network S) (h : ℕ) (said : ℕ → List ℕ → List ℕ) (k : ℕ) (x : Streams)
     (n : ℕ) (s : S) (o : Streams) : Type 0 where
-  pub talk : IsTalk net h said k x
+  pub talk : NodeTalk net h said k x
   pub run : IsMaximalRun net h x n s o
   pub fixed : IsFixed said x o
   pub first :
-      (i : ℕ) (y : Streams) (m : ℕ) (t : S) (u : Streams) → i < k → IsTalk net h said i y
+      (i : ℕ) (y : Streams) (m : ℕ) (t : S) (u : Streams) → i < k → NodeTalk net h said i y
       → IsMaximalRun net h y m t u → IsFixed said y u → ⊥
 
 -- The hub of a star alone: each node is it, and its neighbours are its ports.

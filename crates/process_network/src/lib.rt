@@ -5,7 +5,7 @@
 #![tactic(auto)]
 
 ghost use Rattle.std.specs.Prelude.{◌≡◌, ℕ, suc, ◌<◌, ◌≤◌, ◌++◌, List, Option, None, true, length, map};
-ghost use Rattle.process_network.specs.Network.{IsPrefix, Streams, Network, IsMonotone, Step, outcome, IsQuiescent, IsSmall, IsOneResult, IsMaximalRun, IsTalk, IsHonest, turns};
+ghost use Rattle.process_network.specs.Network.{IsPrefix, Streams, Network, IsMonotone, Step, outcome, IsQuiescent, IsSmall, IsOneResult, IsMaximalRun, NodeTalk, IsHonest, turns};
 ghost use Rattle.process_network.specs.Star.{Star, StarStep, IsStarMonotone, Cursors, reached, star_after, star_start, star_effective, star_effective_steps, IsStarQuiescent};
 ghost use Rattle.process_network.specs.CalmRun.{Move, calm_start, calm_end, IsAtRest, IsCalmResult, IsHubLast, all_delivered, traffic_at, moves_taken};
 ghost use Rattle.process_network.specs.StarTalk.{IsHubRun, IsHonestStar, StarTalk};
@@ -76,7 +76,7 @@ pub fn talk_settles<S: Node>()
         → IsSmall nodes (outcome S.net script) (turns S.net script)
         → (node : ℕ) (said : ℕ → List ℕ → List ℕ) → IsHonest S.net node said
         → (k : ℕ) × (x : Streams) × (n : ℕ) × (s : S) × (sent : Streams)
-        × IsTalk S.net node said k x × IsMaximalRun S.net node x n s sent × IsFixed said x sent }
+        × NodeTalk S.net node said k x × IsMaximalRun S.net node x n s sent × IsFixed said x sent }
 {}
 
 /// Where a run in which all is delivered at once comes to rest, every schedule of turns and deliveries has its result.

@@ -7,8 +7,6 @@
 mod bus;
 mod fault;
 mod layout;
-#[cfg(test)]
-mod tests;
 mod writer;
 
 pub use bus::BusAccess;

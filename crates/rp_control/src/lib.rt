@@ -11,8 +11,6 @@ mod fault;
 mod hello;
 mod interrupt;
 mod sync;
-#[cfg(test)]
-mod tests;
 
 pub use caps::{caps_of, common};
 pub use cfg::Cfg;

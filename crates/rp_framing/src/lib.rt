@@ -6,11 +6,9 @@ mod framer;
 mod front;
 mod receiver;
 mod sender;
-#[cfg(test)]
-mod tests;
 
 pub use fault::{FrameFault, Truncated};
 pub use framer::Framer;
 pub use front::front_of;
-pub use receiver::{ReceiveFault, receive};
+pub use receiver::{Pulled, ReceiveFault, pull, receive};
 pub use sender::{SendFault, send};

@@ -23,9 +23,22 @@ pub enum ReceiveFault {
     NoMemory,
 }
 
+impl From<NoMemory> for ReceiveFault {
+    ghost use Rattle.std.specs.Prelude.{◌≡◌};
+    ghost use Rattle.rp_framing.specs.declared.receiver.ReceiveFault.TheVariants.{NoMemory as WantOfMemory};
+
+    ghost from_gives = { λ _ fault. fault ≡ WantOfMemory };
+
+    fn from(_: NoMemory) -> Self {
+        ReceiveFault::NoMemory
+    }
+}
+
 /// What one read brought.
-enum Pulled {
+pub enum Pulled {
+    /// Bytes came, 4,096 at most, and the framer holds them.
     More,
+    /// All that comes was read before.
     End,
 }
 
@@ -59,17 +72,15 @@ pub fn receive<L: Link>(framer: &mut Framer, link: &mut L) -> Result<Option<Pack
     }
 }
 
-/// Reads once, for a framer that holds no whole packet.
-fn pull<L: Link>(framer: &mut Framer, link: &mut L) -> Result<Pulled, ReceiveFault>
+/// Reads once, for a framer that holds no whole packet. Its room for a piece is taken before, so no byte that was read is lost. It
+/// may wait for the other side.
+pub fn pull<L: Link>(framer: &mut Framer, link: &mut L) -> Result<Pulled, ReceiveFault>
     requires { is_ready framer.old ≡ false }
     ensures pulls { Pulls (L.told link.old) (L.told link.new) framer.old framer.new result }
     ensures counts { ReceiveCounts (L.count link.old) (L.count link.new) result }
     ensures is_sound { L.sound link.old → L.sound link.new × ReceiveSound result }
 {
-    match framer.reserve() {
-        Ok(()) => {}
-        Err(NoMemory) => return Err(ReceiveFault::NoMemory),
-    }
+    framer.reserve()?;
     let mut piece = [0u8; PIECE];
     let most = framer.room().min(PIECE);
     let (into, _) = piece.split_at_mut(most);

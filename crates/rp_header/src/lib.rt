@@ -7,8 +7,6 @@
 mod fault;
 mod header;
 mod numbers;
-#[cfg(test)]
-mod tests;
 
 pub use cosim_model::Command;
 pub use fault::HeaderFault;

@@ -9,8 +9,6 @@
 mod looks;
 mod rows;
 mod session;
-#[cfg(test)]
-mod tests;
 
 pub use cosim_model::{Event, OwnRequest, Role, SessionFault, Ticket};
 pub use rp_control::Caps;

@@ -100,7 +100,7 @@ const NONE: Caps = Caps {
 impl Session {
     ghost use Rattle.cosim_model.specs.Values.{no_caps};
     ghost use Rattle.cosim_model.specs.Packets.{Body, command_of, is_response as is_answer};
-    ghost use Rattle.cosim_model.specs.Sessions.{fresh_session, begin_wait, hello_of, hello_sent, request_sent, take_packet, flood, own_of, fault_of, counted, event_of};
+    ghost use Rattle.cosim_model.specs.Sessions.{fresh_session, begin_wait, hello_of, hello_sent, request_sent, take_packet, flood, outstanding_request, fault_of, counted, event_of};
     ghost use Rattle.rp_packet.specs.Values.{value_of};
     ghost use Rattle.rp_session.specs.Tags.{own_of_kind, peer_of_kind, answered, is_posted_kind, requested, IsRequestTag, IsAnswerTag, AsksOf};
     ghost use Rattle.rp_session.specs.Rows.{hello_rows, answer_rows, request_rows, other_event};
@@ -280,8 +280,8 @@ impl Session {
     }
 
     /// The own request of the packet's class that awaits its answer.
-    fn own_of(&self, packet: &Packet) -> Option<OwnRequest>
-        ensures { result ≡ own_of self.now (value_of packet.now).body }
+    fn outstanding_request(&self, packet: &Packet) -> Option<OwnRequest>
+        ensures { result ≡ outstanding_request self.now (value_of packet.now).body }
     {
         match packet {
             Packet::Sync(..) => self.own_sync,
@@ -309,7 +309,10 @@ impl Session {
         ensures { result ≡ answer_rows self.now (value_of packet.now) }
     {
         let wrong = wrong_answer(self.own_other, packet);
-        let stray = or_else(stray_answer(self.own_of(packet), packet), wrong);
+        let stray = or_else(
+            stray_answer(self.outstanding_request(packet), packet),
+            wrong,
+        );
         or_else(unsupported(self.role, packet), stray)
     }
 

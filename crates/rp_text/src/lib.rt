@@ -20,8 +20,6 @@ mod hexadecimal;
 mod laws;
 mod parser;
 mod printer;
-#[cfg(test)]
-mod tests;
 mod words_in;
 mod words_out;
 

@@ -19,8 +19,6 @@ mod parts;
 mod readings;
 mod statements;
 mod targets;
-#[cfg(test)]
-mod tests;
 mod texts;
 
 pub use assembly::assemble;

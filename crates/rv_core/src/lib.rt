@@ -13,6 +13,3 @@ pub mod unit;
 
 pub use hart::{Hart, HartAccess, Rest};
 pub use issue::{Issue, Waiting};
-
-#[cfg(test)]
-mod tests;

@@ -15,8 +15,6 @@ mod operands;
 mod placing;
 mod row;
 mod table;
-#[cfg(test)]
-mod tests;
 mod words;
 
 pub use instr::Instr;

@@ -2,7 +2,7 @@
 
 /// The operands of an instruction: one variant for each format. Ranges are those of
 /// [`Instr`](crate::Instr).
-#[derive(Clone, Copy, PartialEq, Eq, Debug)]
+#[derive(Clone, Copy)]
 pub enum Operands {
     U { rd: u32, imm: u32 },
     J { rd: u32, imm: u32 },

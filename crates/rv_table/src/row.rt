@@ -4,7 +4,7 @@
 ///
 /// `U`, `J`, `I`, `B`, `S` and `R` are the manual's formats. The others are formats of the manual
 /// whose fields are read in a way of their own.
-#[derive(Clone, Copy, PartialEq, Eq, Debug)]
+#[derive(Clone, Copy)]
 pub enum Format {
     /// rd and an upper immediate.
     U,
@@ -31,7 +31,7 @@ pub enum Format {
 }
 
 /// The name of a row, in the order of the table.
-#[derive(Clone, Copy, PartialEq, Eq, Debug)]
+#[derive(Clone, Copy)]
 pub enum Name {
     Lui,
     Auipc,

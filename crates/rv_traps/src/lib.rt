@@ -219,6 +219,3 @@ impl Csrs {
         let _mstatus = &self.mstatus;
     }
 }
-
-#[cfg(test)]
-mod tests;

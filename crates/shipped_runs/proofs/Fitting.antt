@@ -29,7 +29,8 @@ use Rattle.cos_parts.specs.AnyDevices as devices
 use Rattle.cos_parts.specs.AnyMasters as masters
 use Rattle.ends_model.specs.World.{Side, Fit}
 use Rattle.every_schedule.proofs.Lists.{unmapped}
-use Rattle.shipped_runs.specs.Ports.{plan_of, port_of, ports_of}
+use Rattle.cos_config.specs.Plans.{plan_of}
+use Rattle.shipped_runs.specs.Ports.{port_of, ports_of}
 
 -- A DMA's end offers capabilities 1 and 2.
 

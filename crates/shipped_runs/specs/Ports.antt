@@ -3,14 +3,10 @@ use Rattle.std.specs.Prelude.{List, map}
 use Rattle.cos_base.specs.Stores.{Store}
 use Rattle.cos_config.specs.declared.config.Config.{Config}
 use Rattle.cos_config.specs.declared.config.PortConfig.{PortConfig}
-use Rattle.cosim_model.specs.declared.values.Plan.{Plan}
 use Rattle.cosim_inputs.specs.Fresh.{device_of}
 use Rattle.cos_parts.specs.declared.any_device.AnyDevice.{AnyDevice}
 use Rattle.cos_parts.specs.AnyDevices.{any_needs}
 use Rattle.ends_model.specs.World.{Side}
-
-abbrev pub plan_of : Config → Plan
-plan_of c = record { quantum = c.quantum; units = c.units }
 
 abbrev pub port_of : Store → PortConfig → Side × AnyDevice
 port_of files p = (

@@ -17,7 +17,8 @@ ghost use Rattle.cos_parts.specs.declared.any_device.AnyDevice.{AnyDevice};
 ghost use Rattle.rp_packet.specs.Streams.{packet_codec};
 ghost use Rattle.ends_model.specs.World.{Side, Fit};
 ghost use Rattle.every_schedule.specs.Schedules.{IsEverySchedule, HasRoom, IsBounded, DrivesWell};
-ghost use Rattle.shipped_runs.specs.Ports.{plan_of, ports_of};
+ghost use Rattle.cos_config.specs.Plans.{plan_of};
+ghost use Rattle.shipped_runs.specs.Ports.{ports_of};
 
 use cos_parts::{AnyDevice, AnyMaster};
 use every_schedule::{System, every_schedule};

@@ -7,7 +7,6 @@ use Rattle.std.proofs.Common.{refl, ap, sym, ◌∙◌, subst, append_assoc, dro
 use Rattle.std.proofs.lemmas.List.{take_more, take-append-drop}
 use Rattle.std.specs.Borrow.{Bor}
 use Rattle.byte_streams.proofs.Prefixes.{IsPrefix-by, IsPrefix-behind}
-use Rattle.outcomes.specs.Outcomes.{IsPut}
 use Rattle.statuses.specs.Lines.{texts}
 use Rattle.std.proofs.lemmas.List.{append-nil}
 use Rattle.cos_base.specs.Counts.{Rises}
@@ -65,9 +64,12 @@ puts-longer (Some x) None p q e pre puts = tt
 puts-longer (Some x) (Some now) p q e pre (part, fits, is) = (part, IsPrefix-trans part p q fits pre, is)
 
 -- a piece that failed, behind pieces that were put, is a beginning of all
-pub put-stops : (before mid now : ℕ) (a b c : Option (List ℕ)) (p q all : List ℕ) (e : Failed) → mid ≡ before → PutsAll a b p → Rises mid now → Puts b c q (Err e) → IsPrefix (p ++ q) all → IsPut (record { before = before; now = now; old = a; new = c }) all
-put-stops before mid now a b c p q all e same first rises then fits =
-    (Err e, subst (λ n. Rises n now) same rises, puts-longer a c (p ++ q) all e fits (puts-both a b c p q (Err e) first then))
+pub puts-stops : (a b c : Option (List ℕ)) (p q all : List ℕ) (e : Failed) → PutsAll a b p → Puts b c q (Err e) → IsPrefix (p ++ q) all → Puts a c all (Err e)
+puts-stops a b c p q all e first then fits = puts-longer a c (p ++ q) all e fits (puts-both a b c p q (Err e) first then)
+
+-- where the count of faults stood before, it rose in all
+pub rises-from : (before mid now : ℕ) → mid ≡ before → Rises mid now → Rises before now
+rises-from before mid now same rises = subst (λ n. Rises n now) same rises
 
 pub take-past : (ps : List (Bor (List ℕ))) (n : ℕ) → length ps ≤ n → take n ps ≡ ps
 take-past [] zero h = refl
@@ -78,6 +80,3 @@ take-past (x ∷ ps) (suc n) h = ap (λ l. x ∷ l) (take-past ps n (omega (arit
 -- all pieces were put
 pub puts-whole : (a b : Option (List ℕ)) (ps : List (Bor (List ℕ))) (n : ℕ) → PutsAll a b (texts (take n ps)) → length ps ≤ n → PutsAll a b (texts ps)
 puts-whole a b ps n puts end = subst (λ l. PutsAll a b (texts l)) (take-past ps n end) puts
-
-pub put-whole : (before now : ℕ) (a b : Option (List ℕ)) (ps : List (Bor (List ℕ))) (n : ℕ) → now ≡ before → PutsAll a b (texts (take n ps)) → length ps ≤ n → IsPut (record { before = before; now = now; old = a; new = b }) (texts ps)
-put-whole before now a b ps n same puts end = (Ok tt, same, puts-whole a b ps n puts end)

@@ -7,8 +7,10 @@ use Rattle.cos_config.specs.declared.fault.TableName.{TableName}
 use Rattle.cos_config.specs.declared.fault.TableName.TheVariants as table
 use Rattle.cos_config.specs.declared.fault.ConfigFault.{ConfigFault}
 use Rattle.cos_config.specs.declared.fault.ConfigFault.TheVariants as config
-use Rattle.end_device.specs.declared.fault.EndFault.{EndFault}
-use Rattle.end_device.specs.declared.fault.EndFault.TheVariants as fault
+use Rattle.cosim_model.specs.declared.session.EndFault.{EndFault}
+use Rattle.cosim_model.specs.declared.session.EndFault.TheVariants as fault
+use Rattle.cosim_model.specs.declared.session.SessionFault.{SessionFault}
+use Rattle.cosim_model.specs.declared.session.SessionFault.TheVariants as session
 use Rattle.rp_packet.specs.declared.fault.Cause.{Cause}
 use Rattle.rp_packet.specs.declared.fault.Cause.TheVariants as cause
 use Rattle.rp_packet.specs.declared.fault.PacketFault.{PacketFault}
@@ -23,20 +25,20 @@ use Rattle.outcomes.specs.Outcomes.{IsPut}
 use Rattle.outcomes.specs.declared.object.Object.{Object}
 use Rattle.outcomes.specs.declared.object.Object.TheVariants as object
 
--- pieces, one after another, before a text
-abbrev pub before : List (List ℕ) → List ℕ → List ℕ
-before [] text = text
-before (x ∷ xs) text = x ++ before xs text
-
+-- pieces of text, one after another
 abbrev pub texts : List (Bor (List ℕ)) → List ℕ
 texts pieces = concat (map (λ p. p.now) pieces)
 
--- a line that ends in one number, and in two
+-- a line that ends in one number, in two, and in three
 abbrev pub line_one : List ℕ → ℕ → List ℕ
 line_one front n = concat (front ∷ decimal n ∷ codes "\n" ∷ [])
 
 abbrev pub line_two : List ℕ → ℕ → ℕ → List ℕ
 line_two front n m = concat (front ∷ decimal n ∷ codes " " ∷ decimal m ∷ codes "\n" ∷ [])
+
+abbrev pub line_three : List ℕ → ℕ → ℕ → ℕ → List ℕ
+line_three front n m k =
+    concat (front ∷ decimal n ∷ codes " " ∷ decimal m ∷ codes " " ∷ decimal k ∷ codes "\n" ∷ [])
 
 -- how a table of the configuration is called
 abbrev pub table_name : TableName → List ℕ
@@ -64,7 +66,7 @@ config_line (config.LineTwice a b) = line_two (codes "cosim: config: LineTwice "
 config_line (config.Needs port cap) = line_two (codes "cosim: config: Needs ") port cap
 config_line config.NoMemory = codes "cosim: config: NoMemory\n"
 
--- the cause of a refused packet, with its fields
+-- the cause of a malformed packet: its variant, followed by its fields
 abbrev pub cause_text : Cause → List ℕ
 cause_text (cause.Command n) = line_one (codes "Command ") n
 cause_text (cause.Translation n) = line_one (codes "Translation ") n
@@ -74,10 +76,10 @@ cause_text (cause.CapsRange n m) = line_two (codes "CapsRange ") n m
 cause_text (cause.DataRange n m) = line_two (codes "DataRange ") n m
 cause_text (cause.EnableRange n m) = line_two (codes "EnableRange ") n m
 
-abbrev pub malformed_line : PacketFault → List ℕ
-malformed_line f =
-    before (codes "cosim: input: Malformed " ∷ decimal f.start ∷ codes " " ∷ decimal f.place ∷ codes " " ∷ [])
-    (cause_text f.cause)
+-- a malformed packet: where it begins, the place in it that is blamed, and the cause
+abbrev pub malformed_text : PacketFault → List ℕ
+malformed_text f =
+    concat (codes "Malformed " ∷ decimal f.start ∷ codes " " ∷ decimal f.place ∷ codes " " ∷ []) ++ cause_text f.cause
 
 abbrev pub assembly_cause : AsmCause → List ℕ
 assembly_cause asm.Syntax = codes "Syntax"
@@ -94,24 +96,39 @@ input_line (input.Assembly n c) =
     concat (codes "cosim: input: Assembly " ∷ decimal n ∷ codes " " ∷ assembly_cause c ∷ codes "\n" ∷ [])
 input_line (input.UartInput port len) = line_two (codes "cosim: input: UartInput ") port len
 input_line (input.DiskImage port len) = line_two (codes "cosim: input: DiskImage ") port len
-input_line (input.Malformed f) = malformed_line f
+input_line (input.Malformed f) = codes "cosim: input: " ++ malformed_text f
 input_line (input.Truncated start held) = line_two (codes "cosim: input: Truncated ") start held
 input_line (input.Words len) = line_one (codes "cosim: input: Words ") len
 
+-- a session's fault: its variant, followed by its fields
+abbrev pub session_text : SessionFault → List ℕ
+session_text (session.Flood count) = line_one (codes "Flood ") count
+session_text (session.HelloMissing cmd) = line_one (codes "HelloMissing ") cmd
+session_text session.HelloAgain = codes "HelloAgain\n"
+session_text (session.Version major) = line_one (codes "Version ") major
+session_text (session.CapMissing cap) = line_one (codes "CapMissing ") cap
+session_text (session.Unsupported cmd) = line_one (codes "Unsupported ") cmd
+session_text (session.StrayAnswer id cmd) = line_two (codes "StrayAnswer ") id cmd
+session_text (session.WrongAnswer id wanted got) = line_three (codes "WrongAnswer ") id wanted got
+session_text (session.TimeBackwards had got) = line_two (codes "TimeBackwards ") had got
+session_text (session.EarlyPosted id) = line_one (codes "EarlyPosted ") id
+session_text (session.SecondRequest id) = line_one (codes "SecondRequest ") id
+
+-- why an end stopped: the variant, followed by its fields; a session's fault stands alone
+abbrev pub end_text : EndFault PacketFault → List ℕ
+end_text (fault.Malformed f) = malformed_text f
+end_text (fault.Truncated start held) = line_two (codes "Truncated ") start held
+end_text (fault.Session f) = session_text f
+end_text (fault.Ended taken) = line_one (codes "Ended ") taken
+end_text (fault.TooMuch taken) = line_one (codes "TooMuch ") taken
+end_text (fault.Link count) = line_one (codes "Link ") count
+end_text (fault.LateWant at got) = line_two (codes "LateWant ") at got
+end_text (fault.Astray cmd) = line_one (codes "Astray ") cmd
+end_text fault.NoMemory = codes "NoMemory\n"
+
 -- the line of a peer's fault
-abbrev pub peer_line : ℕ → EndFault → List ℕ
-peer_line port (fault.Unbuilt start) =
-    concat (codes "cosim: peer p" ∷ decimal port ∷ codes ": Unbuilt " ∷ decimal start ∷ codes "\n" ∷ [])
-peer_line port (fault.Truncated start held) =
-    concat (codes "cosim: peer p" ∷ decimal port ∷ codes ": Truncated " ∷ decimal start ∷ codes " " ∷ decimal held
-    ∷ codes "\n" ∷ [])
-peer_line port (fault.Ended taken) =
-    concat (codes "cosim: peer p" ∷ decimal port ∷ codes ": Ended " ∷ decimal taken ∷ codes "\n" ∷ [])
-peer_line port (fault.TooMuch taken) =
-    concat (codes "cosim: peer p" ∷ decimal port ∷ codes ": TooMuch " ∷ decimal taken ∷ codes "\n" ∷ [])
-peer_line port (fault.Link count) =
-    concat (codes "cosim: peer p" ∷ decimal port ∷ codes ": Link " ∷ decimal count ∷ codes "\n" ∷ [])
-peer_line port fault.NoMemory = concat (codes "cosim: peer p" ∷ decimal port ∷ codes ": NoMemory\n" ∷ [])
+abbrev pub peer_line : ℕ → EndFault PacketFault → List ℕ
+peer_line port f = concat (codes "cosim: peer p" ∷ decimal port ∷ codes ": " ∷ []) ++ end_text f
 
 -- the line of an object of the outside
 abbrev pub outside_line : Object → ℕ → List ℕ

@@ -1,30 +1,38 @@
 // The line that tells a status, put from fixed pieces. It takes no memory.
-ghost use Rattle.std.specs.Prelude.{◌≡◌, ◌∷◌, [], codes, decimal};
+ghost use Rattle.std.specs.Prelude.{◌≡◌, ◌∷◌, [], codes};
 ghost use Rattle.std.specs.Fmt.{signed_decimal};
 ghost use Rattle.std.specs.List.{concat};
 ghost use Rattle.outcomes.specs.Seen.{seen};
-ghost use Rattle.statuses.specs.Lines.{TellsStatus, before, texts, line_one, line_two, table_name as name_of_table, assembly_cause as name_of_cause, key_line, config_line, cause_text, malformed_line, input_line, peer_line, outside_line, line_of};
-ghost use Rattle.statuses.specs.Takes.{Takes, TakesAll};
+ghost use Rattle.statuses.specs.Lines.{TellsStatus, texts, line_one, line_two, line_three, table_name as name_of_table, assembly_cause as name_of_cause, key_line, config_line, cause_text, malformed_text, input_line, session_text, end_text, peer_line, outside_line, line_of};
+ghost use Rattle.statuses.specs.Takes.{PutsPieces, Takes, TakesAll};
 
 use crate::status::{InputFault, Status};
 use cos_base::{Failed, Sink};
 use cos_config::{ConfigFault, TableName};
-use end_device::EndFault;
+use cosim_model::{EndFault, SessionFault};
 use itoa::Buffer;
 use outcomes::Object;
 use rp_packet::{Cause, PacketFault};
 use rv_asm::Cause as AsmCause;
 
 /// Puts pieces of text, one after another, as far as none fails.
-fn put_all<E: Sink>(err: &mut E, pieces: &[&str])
-    ensures { Takes E.told E.count E.room E.sound err.old err.new (texts pieces.now) }
+fn put_pieces<E: Sink>(err: &mut E, pieces: &[&str]) -> Result<(), Failed>
+    ensures { PutsPieces E.told E.count E.room E.sound err.old err.new (texts pieces.now) result }
 {
     'pieces: for piece in pieces {
         match err.put(piece.as_bytes()) {
             Ok(()) => {}
-            Err(Failed) => return,
+            Err(Failed) => return Err(Failed),
         }
     }
+    Ok(())
+}
+
+/// Puts the pieces of a line; whether they were put shows in the sink's count.
+fn put_all<E: Sink>(err: &mut E, pieces: &[&str])
+    ensures { Takes E.told E.count E.room E.sound err.old err.new (texts pieces.now) }
+{
+    let _put = put_pieces(err, pieces);
 }
 
 /// Puts a line that ends in a number.
@@ -44,6 +52,27 @@ fn put_two<E: Sink>(err: &mut E, front: &str, number: u64, other: u64)
     put_all(
         err,
         &[front, first.format(number), " ", second.format(other), "\n"],
+    );
+}
+
+/// Puts a line that ends in three numbers.
+fn put_three<E: Sink>(err: &mut E, front: &str, number: u64, other: u64, last: u64)
+    ensures { Takes E.told E.count E.room E.sound err.old err.new (line_three front.now number other last) }
+{
+    let mut first = Buffer::new();
+    let mut second = Buffer::new();
+    let mut third = Buffer::new();
+    put_all(
+        err,
+        &[
+            front,
+            first.format(number),
+            " ",
+            second.format(other),
+            " ",
+            third.format(last),
+            "\n",
+        ],
     );
 }
 
@@ -108,75 +137,42 @@ fn put_config<E: Sink>(err: &mut E, fault: &ConfigFault)
     }
 }
 
-/// Puts the line of a refused packet whose cause ends in a number.
-fn put_cause<E: Sink>(err: &mut E, start: u64, place: u32, cause: &str, number: u64)
-    ensures { Takes E.told E.count E.room E.sound err.old err.new
-        (before (codes "cosim: input: Malformed " ∷ decimal start ∷ codes " " ∷ decimal place ∷ codes " " ∷ []) (line_one cause.now number)) }
+/// Puts the cause of a malformed packet, up to the end of its line.
+fn put_cause<E: Sink>(err: &mut E, cause: Cause)
+    ensures { Takes E.told E.count E.room E.sound err.old err.new (cause_text cause) }
 {
-    let mut first = Buffer::new();
-    let mut second = Buffer::new();
-    let mut third = Buffer::new();
-    put_all(
-        err,
-        &[
-            "cosim: input: Malformed ",
-            first.format(start),
-            " ",
-            second.format(place),
-            " ",
-            cause,
-            third.format(number),
-            "\n",
-        ],
-    );
+    match cause {
+        Cause::Command { number } => put_one(err, "Command ", number),
+        Cause::Translation { number } => put_one(err, "Translation ", number),
+        Cause::TooLong { len } => put_one(err, "TooLong ", len),
+        Cause::Length { wanted, got } => put_two(err, "Length ", wanted, got),
+        Cause::CapsRange { offset, count } => put_two(err, "CapsRange ", offset, count),
+        Cause::DataRange { offset, len } => put_two(err, "DataRange ", offset, len),
+        Cause::EnableRange { offset, len } => put_two(err, "EnableRange ", offset, len),
+    }
 }
 
-/// Puts the line of a refused packet whose cause ends in two numbers.
-fn put_causes<E: Sink>(err: &mut E, start: u64, place: u32, cause: &str, number: u64, other: u64)
-    ensures { Takes E.told E.count E.room E.sound err.old err.new
-        (before (codes "cosim: input: Malformed " ∷ decimal start ∷ codes " " ∷ decimal place ∷ codes " " ∷ []) (line_two cause.now number other)) }
-{
-    let mut first = Buffer::new();
-    let mut second = Buffer::new();
-    let mut third = Buffer::new();
-    let mut fourth = Buffer::new();
-    put_all(
-        err,
-        &[
-            "cosim: input: Malformed ",
-            first.format(start),
-            " ",
-            second.format(place),
-            " ",
-            cause,
-            third.format(number),
-            " ",
-            fourth.format(other),
-            "\n",
-        ],
-    );
-}
-
-/// Puts the line of a refused packet.
+/// Puts a malformed packet, up to the end of its line.
 fn put_malformed<E: Sink>(err: &mut E, fault: PacketFault)
-    ensures { Takes E.told E.count E.room E.sound err.old err.new (malformed_line fault) }
+    ensures { Takes E.told E.count E.room E.sound err.old err.new (malformed_text fault) }
 {
-    let start = fault.start;
-    let place = fault.place;
-    match fault.cause {
-        Cause::Command { number } => put_cause(err, start, place, "Command ", number),
-        Cause::Translation { number } => put_cause(err, start, place, "Translation ", number),
-        Cause::TooLong { len } => put_cause(err, start, place, "TooLong ", len),
-        Cause::Length { wanted, got } => put_causes(err, start, place, "Length ", wanted, got),
-        Cause::CapsRange { offset, count } => {
-            put_causes(err, start, place, "CapsRange ", offset, count)
-        }
-        Cause::DataRange { offset, len } => {
-            put_causes(err, start, place, "DataRange ", offset, len)
-        }
-        Cause::EnableRange { offset, len } => {
-            put_causes(err, start, place, "EnableRange ", offset, len)
-        }
+    let mut first = Buffer::new();
+    let mut second = Buffer::new();
+    let start = first.format(fault.start);
+    let place = second.format(fault.place);
+    match put_pieces(err, &["Malformed ", start, " ", place, " "]) {
+        Ok(()) => put_cause(err, fault.cause),
+        Err(Failed) => {}
+    }
+}
+
+/// Puts the line of a file's malformed packet.
+fn put_packet<E: Sink>(err: &mut E, fault: PacketFault)
+    ensures { Takes E.told E.count E.room E.sound err.old err.new (input_line (InputFault.Malformed fault)) }
+{
+    match put_pieces(err, &["cosim: input: "]) {
+        Ok(()) => put_malformed(err, fault),
+        Err(Failed) => {}
     }
 }
 
@@ -227,7 +223,7 @@ fn put_input<E: Sink>(err: &mut E, fault: InputFault)
         InputFault::DiskImage { port, len } => {
             put_two(err, "cosim: input: DiskImage ", port as u64, len)
         }
-        InputFault::Malformed(fault) => put_malformed(err, fault),
+        InputFault::Malformed(fault) => put_packet(err, fault),
         InputFault::Truncated { start, held } => {
             put_two(err, "cosim: input: Truncated ", start, held)
         }
@@ -235,62 +231,52 @@ fn put_input<E: Sink>(err: &mut E, fault: InputFault)
     }
 }
 
+/// Puts a session's fault, up to the end of its line.
+fn put_session<E: Sink>(err: &mut E, fault: SessionFault)
+    ensures { Takes E.told E.count E.room E.sound err.old err.new (session_text fault) }
+{
+    match fault {
+        SessionFault::Flood { count } => put_one(err, "Flood ", count),
+        SessionFault::HelloMissing { cmd } => put_one(err, "HelloMissing ", cmd),
+        SessionFault::HelloAgain => put_all(err, &["HelloAgain\n"]),
+        SessionFault::Version { major } => put_one(err, "Version ", major),
+        SessionFault::CapMissing { cap } => put_one(err, "CapMissing ", cap),
+        SessionFault::Unsupported { cmd } => put_one(err, "Unsupported ", cmd),
+        SessionFault::StrayAnswer { id, cmd } => put_two(err, "StrayAnswer ", id, cmd),
+        SessionFault::WrongAnswer { id, wanted, got } => {
+            put_three(err, "WrongAnswer ", id, wanted, got)
+        }
+        SessionFault::TimeBackwards { had, got } => put_two(err, "TimeBackwards ", had, got),
+        SessionFault::EarlyPosted { id } => put_one(err, "EarlyPosted ", id),
+        SessionFault::SecondRequest { id } => put_one(err, "SecondRequest ", id),
+    }
+}
+
+/// Puts why an end stopped, up to the end of its line.
+fn put_end<E: Sink>(err: &mut E, fault: EndFault<PacketFault>)
+    ensures { Takes E.told E.count E.room E.sound err.old err.new (end_text fault) }
+{
+    match fault {
+        EndFault::Malformed(fault) => put_malformed(err, fault),
+        EndFault::Truncated { start, held } => put_two(err, "Truncated ", start, held),
+        EndFault::Session(fault) => put_session(err, fault),
+        EndFault::Ended { taken } => put_one(err, "Ended ", taken),
+        EndFault::TooMuch { taken } => put_one(err, "TooMuch ", taken),
+        EndFault::Link { count } => put_one(err, "Link ", count),
+        EndFault::LateWant { at, got } => put_two(err, "LateWant ", at, got),
+        EndFault::Astray { cmd } => put_one(err, "Astray ", cmd),
+        EndFault::NoMemory => put_all(err, &["NoMemory\n"]),
+    }
+}
+
 /// Puts the line of a peer's fault.
-fn put_peer<E: Sink>(err: &mut E, port: u32, fault: EndFault)
+fn put_peer<E: Sink>(err: &mut E, port: u32, fault: EndFault<PacketFault>)
     ensures { Takes E.told E.count E.room E.sound err.old err.new (peer_line port fault) }
 {
-    let mut first = Buffer::new();
-    let mut second = Buffer::new();
-    let mut third = Buffer::new();
-    let port = first.format(port);
-    match fault {
-        EndFault::Unbuilt { start } => put_all(
-            err,
-            &[
-                "cosim: peer p",
-                port,
-                ": Unbuilt ",
-                second.format(start),
-                "\n",
-            ],
-        ),
-        EndFault::Truncated { start, held } => put_all(
-            err,
-            &[
-                "cosim: peer p",
-                port,
-                ": Truncated ",
-                second.format(start),
-                " ",
-                third.format(held),
-                "\n",
-            ],
-        ),
-        EndFault::Ended { taken } => put_all(
-            err,
-            &[
-                "cosim: peer p",
-                port,
-                ": Ended ",
-                second.format(taken),
-                "\n",
-            ],
-        ),
-        EndFault::TooMuch { taken } => put_all(
-            err,
-            &[
-                "cosim: peer p",
-                port,
-                ": TooMuch ",
-                second.format(taken),
-                "\n",
-            ],
-        ),
-        EndFault::Link { count } => put_all(
-            err,
-            &["cosim: peer p", port, ": Link ", second.format(count), "\n"],
-        ),
-        EndFault::NoMemory => put_all(err, &["cosim: peer p", port, ": NoMemory\n"]),
+    let mut number = Buffer::new();
+    match put_pieces(err, &["cosim: peer p", number.format(port), ": "]) {
+        Ok(()) => put_end(err, fault),
+        Err(Failed) => {}
     }
 }
 

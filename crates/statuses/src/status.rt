@@ -1,6 +1,6 @@
 // How the program ends.
 use cos_config::ConfigFault;
-use end_device::EndFault;
+use cosim_model::EndFault;
 use outcomes::Object;
 use rp_packet::PacketFault;
 use rv_asm::Cause;
@@ -34,15 +34,23 @@ pub enum Status {
     /// The command did its work.
     Done,
     /// The words are no command. `index` is that of the first word with which no command begins, counted from 0, or the number of words where more are missing.
-    Usage { index: u64 },
+    Usage {
+        index: u64,
+    },
     /// A rule of the configuration is broken.
     Config(ConfigFault),
     /// A file is refused.
     Input(InputFault),
-    /// The link of that port was received to this fault.
-    Peer { port: u32, fault: EndFault },
+    /// The end of that port's link stopped by this fault.
+    Peer {
+        port: u32,
+        fault: EndFault<PacketFault>,
+    },
     /// The object didn't do what it was asked; `count` is its count of faults.
-    Outside { object: Object, count: u64 },
+    Outside {
+        object: Object,
+        count: u64,
+    },
     /// Want of memory.
     NoMemory,
 }

@@ -8,8 +8,6 @@ mod machine;
 mod map;
 mod rv_master;
 mod system;
-#[cfg(test)]
-mod tests;
 
 pub use map::{Map, MapFault, Window};
 pub use rv_master::RvMaster;

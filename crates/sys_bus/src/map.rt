@@ -30,6 +30,17 @@ pub enum MapFault {
     NoMemory,
 }
 
+impl From<NoMemory> for MapFault {
+    ghost use Rattle.std.specs.Prelude.{◌≡◌};
+    ghost use Rattle.sys_bus.specs.declared.map.MapFault.TheVariants.{NoMemory as WantOfMemory};
+
+    ghost from_gives = { λ _ fault. fault ≡ WantOfMemory };
+
+    fn from(_: NoMemory) -> Self {
+        MapFault::NoMemory
+    }
+}
+
 /// Windows to ports, beside RAM and the system block. No two parts of it share an address.
 #[derive(Drop)]
 pub struct Map {
@@ -93,10 +104,7 @@ impl Map {
         if let Some(fault) = misaligned_window(windows) {
             return Err(fault);
         }
-        let parts = match parts(alloc, windows, ram) {
-            Ok(parts) => parts,
-            Err(NoMemory) => return Err(MapFault::NoMemory),
-        };
+        let parts = parts(alloc, windows, ram)?;
         if let Some((a, b)) = overlap(&parts) {
             return Err(MapFault::Overlap {
                 a: a as u64,

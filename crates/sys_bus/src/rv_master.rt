@@ -124,10 +124,9 @@ impl Master for RvMaster {
     ghost lawful = { rv_lawful };
 
     fn issue(&mut self) -> Result<Option<Bus>, NoMemory> {
-        let waiting = match self.machine.issue() {
-            Ok(None) => return Ok(None),
-            Ok(Some(waiting)) => waiting,
-            Err(NoMemory) => return Err(NoMemory),
+        let waiting = match self.machine.issue()? {
+            Some(waiting) => waiting,
+            None => return Ok(None),
         };
         Ok(self.issue_beyond(waiting))
     }
@@ -149,10 +148,7 @@ impl Master for RvMaster {
     }
 
     fn write(&mut self, addr: u64, bytes: &[u8], enables: &[u8]) -> Result<u8, NoMemory> {
-        match self.machine.ram.write(addr, bytes, enables) {
-            Ok(code) => Ok(code),
-            Err(NoMemory) => Err(NoMemory),
-        }
+        self.machine.ram.write(addr, bytes, enables)
     }
 
     fn line(&mut self, line: u32, level: bool) {

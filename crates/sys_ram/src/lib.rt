@@ -5,8 +5,6 @@ mod fault;
 mod page;
 mod pages;
 mod ram;
-#[cfg(test)]
-mod tests;
 
 pub use fault::ImageFault;
 pub use ram::Ram;

@@ -154,10 +154,7 @@ fn put_in_page(
     ensures ok { OnOk result (page_bytes page.new ≡ overwritten (page_bytes page.old) at bytes.now) }
     ensures err { OnErr result (page_bytes page.new ≡ page_bytes page.old) }
 {
-    match touch(alloc, page) {
-        Ok(()) => {}
-        Err(NoMemory) => return Err(NoMemory),
-    }
+    touch(alloc, page)?;
     match page {
         Some(page) => page.overwrite(at, bytes),
         None => unreachable!(),
@@ -188,10 +185,7 @@ pub(crate) fn put_part<const N: usize>(
             Err(NoMemory) => Err(NoMemory),
         };
     }
-    match touch_all(alloc, pages, at, N) {
-        Ok(()) => {}
-        Err(NoMemory) => return Err(NoMemory),
-    }
+    touch_all(alloc, pages, at, N)?;
     write_all(pages, at, bytes, &[]);
     Ok(())
 }

@@ -103,10 +103,8 @@ impl Ram {
                 got: image.len() as u64,
             });
         }
-        match self.put(0, image, &[]) {
-            Ok(()) => Ok(()),
-            Err(NoMemory) => Err(ImageFault::NoMemory),
-        }
+        self.put(0, image, &[])?;
+        Ok(())
     }
 
     /// Writes the enabled ones of some bytes from a place on.
@@ -157,10 +155,10 @@ impl Ram {
         ensures err { OnErr result (self.new ≡ self.old) }
     {
         match self.place(addr, bytes.len()) {
-            Some(at) => match self.put(at, bytes, enables) {
-                Ok(()) => Ok(0),
-                Err(NoMemory) => Err(NoMemory),
-            },
+            Some(at) => {
+                self.put(at, bytes, enables)?;
+                Ok(0)
+            }
             None => Ok(2),
         }
     }
@@ -205,10 +203,10 @@ impl Ram {
         ensures err { OnErr result (self.new ≡ self.old) }
     {
         match self.near(addr, 1) {
-            Some(at) => match put_part(self.alloc, &mut self.pages, at, &value.to_le_bytes()) {
-                Ok(()) => Ok(true),
-                Err(NoMemory) => Err(NoMemory),
-            },
+            Some(at) => {
+                put_part(self.alloc, &mut self.pages, at, &value.to_le_bytes())?;
+                Ok(true)
+            }
             None => Ok(false),
         }
     }
@@ -220,10 +218,10 @@ impl Ram {
         ensures err { OnErr result (self.new ≡ self.old) }
     {
         match self.near(addr, 2) {
-            Some(at) => match put_part(self.alloc, &mut self.pages, at, &value.to_le_bytes()) {
-                Ok(()) => Ok(true),
-                Err(NoMemory) => Err(NoMemory),
-            },
+            Some(at) => {
+                put_part(self.alloc, &mut self.pages, at, &value.to_le_bytes())?;
+                Ok(true)
+            }
             None => Ok(false),
         }
     }
@@ -235,10 +233,10 @@ impl Ram {
         ensures err { OnErr result (self.new ≡ self.old) }
     {
         match self.near(addr, 4) {
-            Some(at) => match put_part(self.alloc, &mut self.pages, at, &value.to_le_bytes()) {
-                Ok(()) => Ok(true),
-                Err(NoMemory) => Err(NoMemory),
-            },
+            Some(at) => {
+                put_part(self.alloc, &mut self.pages, at, &value.to_le_bytes())?;
+                Ok(true)
+            }
             None => Ok(false),
         }
     }

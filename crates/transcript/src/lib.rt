@@ -16,6 +16,3 @@ pub use closing::closing_lines;
 pub use ending::{Ending, Out, Outs};
 pub use output::put_lines;
 pub use sent::outs_of;
-
-#[cfg(test)]
-mod tests;

@@ -1,5 +1,6 @@
 use Rattle.cosim_inputs.specs.Fresh.{master_of}
-use Rattle.shipped_runs.specs.Ports.{plan_of, ports_of}
+use Rattle.cos_config.specs.Plans.{plan_of}
+use Rattle.shipped_runs.specs.Ports.{ports_of}
 use Rattle.shipped_runs.proofs.Fitting.{judged-fits}
 use Rattle.shipped_runs.proofs.shipped_runs.Goals as goal
 

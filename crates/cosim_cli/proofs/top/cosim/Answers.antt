@@ -12,5 +12,5 @@ returns-clause-usage g c = elim c.match-command_of.branch [
 pub returns-clause-promises : goal.returns-clause-promises
 returns-clause-promises g c = elim c.match-command_of.branch [
   | in-Ok w ↦ rw w.files-is (rw w.out-is (rw w.net-is (rw w.status-is (kept-promises _ _ _ _ w.in-Ok.ensures.ok w.perform-status.ensures))))
-  | in-Err w ↦ rw w.files-is (rw w.out-is (rw w.net-is (rw w.status-is (record { count = refl; same = refl }, record { count = refl; same = refl }, record { count = refl; same = refl }))))
+  | in-Err w ↦ rw w.files-is (rw w.out-is (rw w.net-is (rw w.status-is (record { count = refl; same = refl }, record { count = refl; same = refl }, record { count = refl; same = refl }, refl))))
 ]

@@ -12,39 +12,41 @@ returns-in-Device g c =
       serves = c.device.ensures;
       status = c.status_of.ensures;
       files = record { count = refl; same = refl };
+      asks = refl;
       out = record { count = refl; same = refl };
     })
 
 pub returns-in-Show : goal.returns-in-Show
 returns-in-Show g c =
-    rw c.in-Show.is (record { result = c.show.result; performs = c.show.ensures; status = c.status_of-in-Show.ensures; net = record { count = refl; same = refl } })
+    rw c.in-Show.is (record { result = c.show.result; performs = c.show.ensures.performs; asks = c.show.ensures.asks; status = c.status_of-in-Show.ensures; net = record { count = refl; same = refl } })
 
 pub returns-in-Pack : goal.returns-in-Pack
 returns-in-Pack g c =
-    rw c.in-Pack.is (record { result = c.pack.result; performs = c.pack.ensures; status = c.status_of-in-Pack.ensures; net = record { count = refl; same = refl } })
+    rw c.in-Pack.is (record { result = c.pack.result; performs = c.pack.ensures.performs; asks = c.pack.ensures.asks; status = c.status_of-in-Pack.ensures; net = record { count = refl; same = refl } })
 
 pub returns-in-Asm : goal.returns-in-Asm
 returns-in-Asm g c =
     rw c.in-Asm.is
     (record {
       result = c.asm.result;
-      performs = performs-under _ _ _ _ _ _ c.asm.result (λ sound. sound.0) (c.asm.ensures _ _ (record { count = refl; same = refl }));
+      performs = performs-under _ _ _ _ _ _ c.asm.result (λ sound. sound.0) (c.asm.ensures.performs _ _ (record { count = refl; same = refl }));
+      asks = c.asm.ensures.asks;
       status = c.status_of-in-Asm.ensures;
       net = record { count = refl; same = refl };
     })
 
 pub returns-in-Dis : goal.returns-in-Dis
 returns-in-Dis g c =
-    rw c.in-Dis.is (record { result = c.dis.result; performs = c.dis.ensures; status = c.status_of-in-Dis.ensures; net = record { count = refl; same = refl } })
+    rw c.in-Dis.is (record { result = c.dis.result; performs = c.dis.ensures.performs; asks = c.dis.ensures.asks; status = c.status_of-in-Dis.ensures; net = record { count = refl; same = refl } })
 
 pub returns-in-Direct : goal.returns-in-Direct
 returns-in-Direct g c =
-    rw c.in-Direct.is (record { result = c.direct.result; performs = c.direct.ensures; status = c.status_of-in-Direct.ensures; net = record { count = refl; same = refl } })
+    rw c.in-Direct.is (record { result = c.direct.result; performs = c.direct.ensures.performs; asks = c.direct.ensures.asks; status = c.status_of-in-Direct.ensures; net = record { count = refl; same = refl } })
 
 pub returns-in-Ok : goal.returns-in-Ok
 returns-in-Ok g c =
-    rw c.in-Help.is (helps _ (Ok tt) (record { count = refl; same = refl }) (record { count = refl; same = refl }) c.in-Ok.ensures.puts c.in-Ok.ensures.is_sound)
+    rw c.in-Help.is (helps _ (Ok tt) (record { count = refl; same = refl }) refl (record { count = refl; same = refl }) c.in-Ok.ensures.puts c.in-Ok.ensures.is_sound)
 
 pub returns-in-Err : goal.returns-in-Err
 returns-in-Err g c =
-    rw c.in-Help.is (helps _ (Err c.in-Err.field-0) (record { count = refl; same = refl }) (record { count = refl; same = refl }) c.in-Err.ensures.puts c.in-Err.ensures.is_sound)
+    rw c.in-Help.is (helps _ (Err c.in-Err.field-0) (record { count = refl; same = refl }) refl (record { count = refl; same = refl }) c.in-Err.ensures.puts c.in-Err.ensures.is_sound)

@@ -21,7 +21,7 @@ pub returns-in-DiskImage : goal.returns-in-DiskImage
 returns-in-DiskImage g c = put-line _ _ _ _ _ _ _ _ (rw (c.in-DiskImage.is) refl) c.put_two-in-DiskImage.ensures
 
 pub returns-in-Malformed : goal.returns-in-Malformed
-returns-in-Malformed g c = put-line _ _ _ _ _ _ _ _ (rw (c.in-Malformed.is) refl) c.put_malformed.ensures
+returns-in-Malformed g c = put-line _ _ _ _ _ _ _ _ (rw (c.in-Malformed.is) refl) c.put_packet.ensures
 
 pub returns-in-Truncated : goal.returns-in-Truncated
 returns-in-Truncated g c = put-line _ _ _ _ _ _ _ _ (rw (c.in-Truncated.is) refl) c.put_two-in-Truncated.ensures

@@ -1,24 +1,10 @@
 use Rattle.std.proofs.Common.{refl}
-use Rattle.statuses.proofs.Taking.{put-line}
+use Rattle.statuses.specs.Lines.{cause_text}
+use Rattle.statuses.proofs.Taking.{put-line, put-rest, put-stopped}
 use Rattle.statuses.proofs.lines.put_malformed.Goals as goal
 
-pub returns-in-Command : goal.returns-in-Command
-returns-in-Command g c = put-line _ _ _ _ _ _ _ _ (rw (c.in-Command.is) refl) c.put_cause.ensures
+pub returns-in-Ok : goal.returns-in-Ok
+returns-in-Ok g c = put-line _ _ _ _ _ _ _ _ (rw (c.format-start.ensures.text, c.format-place.ensures.text) refl) (put-rest _ _ _ _ _ _ _ _ _ g.met.E.Sink.sound_tells c.in-Ok.ensures c.put_cause.ensures)
 
-pub returns-in-Translation : goal.returns-in-Translation
-returns-in-Translation g c = put-line _ _ _ _ _ _ _ _ (rw (c.in-Translation.is) refl) c.put_cause-in-Translation.ensures
-
-pub returns-in-TooLong : goal.returns-in-TooLong
-returns-in-TooLong g c = put-line _ _ _ _ _ _ _ _ (rw (c.in-TooLong.is) refl) c.put_cause-in-TooLong.ensures
-
-pub returns-in-Length : goal.returns-in-Length
-returns-in-Length g c = put-line _ _ _ _ _ _ _ _ (rw (c.in-Length.is) refl) c.put_causes.ensures
-
-pub returns-in-CapsRange : goal.returns-in-CapsRange
-returns-in-CapsRange g c = put-line _ _ _ _ _ _ _ _ (rw (c.in-CapsRange.is) refl) c.put_causes-in-CapsRange.ensures
-
-pub returns-in-DataRange : goal.returns-in-DataRange
-returns-in-DataRange g c = put-line _ _ _ _ _ _ _ _ (rw (c.in-DataRange.is) refl) c.put_causes-in-DataRange.ensures
-
-pub returns-in-EnableRange : goal.returns-in-EnableRange
-returns-in-EnableRange g c = put-line _ _ _ _ _ _ _ _ (rw (c.in-EnableRange.is) refl) c.put_causes-in-EnableRange.ensures
+pub returns-in-Err : goal.returns-in-Err
+returns-in-Err g c = put-line _ _ _ _ _ _ _ _ (rw (c.format-start.ensures.text, c.format-place.ensures.text) refl) (put-stopped _ _ _ _ _ _ _ (cause_text c.args.fault.cause) _ c.in-Err.ensures)

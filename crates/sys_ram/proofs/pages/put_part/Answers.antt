@@ -31,7 +31,7 @@ touch_all-requires-clause-within g c = omega (arith, length-memory_of c.args.pag
 
 pub returns-clause-ok : goal.returns-clause-ok
 returns-clause-ok g c =
-    let same : memory_of c.touch_all.new.pages ≡ memory_of c.args.pages.now = c.in-Ok-touch_all.ensures.bytes in
+    let same : memory_of c.touch_all.new.pages ≡ memory_of c.args.pages.now = c.in_ok-touch_all.ensures.bytes in
     c.write_all.ensures.bytes
     ∙ ap (λ xs. written_from xs c.args.at c.args.bytes.now [] 0) same
     ∙ written_from-all (memory_of c.args.pages.now) c.args.at c.args.bytes.now 0 (omega (arith, c.told-bytes))

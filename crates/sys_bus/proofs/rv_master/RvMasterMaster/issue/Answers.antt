@@ -4,4 +4,4 @@ use Rattle.sys_bus.proofs.rv_master.RvMasterMaster.issue.Goals as goal
 
 pub issue_beyond-requires-clause-access : goal.issue_beyond-requires-clause-access
 issue_beyond-requires-clause-access c =
-    subst AreAccesses (ap (λ p. p.1) c.in-Ok-Some.ensures.ok ∙ c.in-Ok-Some.field-0-is) (local_unit-is c.self.inside.machine)
+    subst AreAccesses (ap (λ p. p.1) c.in_ok-waiting.ensures.ok ∙ c.in-Some.is) (local_unit-is c.self.inside.machine)

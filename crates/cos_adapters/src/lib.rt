@@ -1,0 +1,15 @@
+//! The objects of the system as those of the outside: its files, its sockets and its standard streams. They tell nothing of content.
+#![tactic(auto)]
+
+mod disk_files;
+mod std_sink;
+mod unix_link;
+mod unix_net;
+
+pub use disk_files::DiskFiles;
+pub use std_sink::StdSink;
+pub use unix_link::UnixLink;
+pub use unix_net::UnixNet;
+
+#[cfg(test)]
+mod tests;

@@ -1,7 +1,0 @@
-use Rattle.std.proofs.Common.{sym, ◌∙◌}
-use Rattle.cos_base.proofs.CallLaws.{fails-listed}
-use Rattle.cos_base.proofs.mem_files.MemFilesFiles.write.Goals as goal
-
-pub returns-then-is_failing-clause-calls : goal.returns-then-is_failing-clause-calls
-returns-then-is_failing-clause-calls c =
-    fails-listed _ _ _ ⊥ c.in-Ok-ask.ensures.calls (sym c.is_failing.ensures.listed ∙ c.if-is_failing.true) c.fail.ensures.next c.fail.ensures.failing

@@ -1,0 +1,16 @@
+use Rattle.std.proofs.Common.{refl}
+use Rattle.outcomes.specs.Seen.{seen}
+use Rattle.cos_parts.specs.Nulls.{null_model}
+use Rattle.cosim_device.specs.Starts.{null_start}
+use Rattle.cosim_device.proofs.Unserved.{unserved}
+use Rattle.cosim_device.proofs.command.device.Goals as goal
+
+pub returns-in-Err : goal.returns-in-Err
+returns-in-Err g c = (
+  null_start,
+  unserved null_model null_start 0 (record {
+    told = g.N.Link.Link.told;
+    count = g.N.Link.Link.count;
+    is_sound = g.N.Network.sound c.args.net.now;
+  }) c.args.socket.now (seen g.N.Network.count g.N.Network.told c.args.net.now c.args.net.now) refl refl,
+)

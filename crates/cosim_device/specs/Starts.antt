@@ -1,0 +1,18 @@
+-- The ends of devices of which no configuration speaks: they offer all capabilities, and a line is sent so that it is
+-- answered.
+use Rattle.std.specs.Prelude.{true}
+use Rattle.cosim_model.specs.declared.session.Role.TheVariants.{Device}
+use Rattle.cosim_model.specs.Parts.{DeviceModel}
+use Rattle.cosim_model.specs.Sessions.{fresh_session}
+use Rattle.cosim_model.specs.Values.{all_caps}
+use Rattle.ends_model.specs.DeviceTurn.{DeviceEnd, fresh_device}
+use Rattle.rp_packet.specs.declared.fault.Cause.{Cause}
+use Rattle.cos_parts.specs.Nulls.{null_model}
+use Rattle.cos_parts.specs.declared.null.Null.{Null}
+
+abbrev pub plain_start : {S : Type 0} → DeviceModel S → S → DeviceEnd S Cause
+plain_start d s = fresh_device s true (fresh_session Device all_caps (d.needs s))
+
+-- a null device at tick 0
+abbrev pub null_start : DeviceEnd Null Cause
+null_start = plain_start null_model (record { seen = 0 })

@@ -1,0 +1,5 @@
+pub mod Taking
+mod Buses
+pub mod Keeping
+mod Settling
+mod Padding

@@ -1,0 +1,10 @@
+pub mod Merges
+pub mod Boundaries
+pub mod Adds
+pub mod Units
+pub mod Serves
+pub mod Ports
+pub mod Endings
+pub mod Runs
+pub mod Quanta
+pub mod Loops

@@ -1,0 +1,5 @@
+//! Sessions with lawful and hostile peers.
+#![tactic(auto)]
+
+#[cfg(test)]
+mod rows;

@@ -1,6 +1,0 @@
-use Rattle.std.proofs.Common.{refl}
-use Rattle.statuses.proofs.Taking.{put-line}
-use Rattle.statuses.proofs.lines.put_causes.Goals as goal
-
-pub returns : goal.returns
-returns g c = put-line _ _ _ _ _ _ _ _ (rw (c.format.ensures.text, c.format-2.ensures.text, c.format-3.ensures.text, c.format-4.ensures.text) refl) c.put_all.ensures
