@@ -1,5 +1,6 @@
 // Streams that are cut, ended and refused, by hand and over a link. Every row is a function that says whether it comes out so.
-use cos_base::{MemLink, NoMemory, Numbers, Octets, Said};
+use cos_base::{NoMemory, Numbers, Octets};
+use cos_memory::{MemLink, Said};
 use rp_framing::{FrameFault, Framer, ReceiveFault, SendFault, Truncated, receive, send};
 use rp_packet::{Cause, Packet, PacketFault};
 use std::alloc::Global;
