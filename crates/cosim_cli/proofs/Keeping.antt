@@ -12,9 +12,11 @@ use Rattle.cosim_inputs.specs.declared.refusals.InputsRefusal.TheVariants as inp
 use Rattle.cosim_packets.specs.declared.refusals.PackRefusal.TheVariants as pack
 use Rattle.cosim_packets.specs.declared.refusals.ShowRefusal.TheVariants as show
 use Rattle.cosim_serve.specs.declared.refusal.DeviceRefusal.TheVariants as device
-use Rattle.cosim_cli.specs.Ended.{ended_status, show_refused, pack_refused, asm_refused, dis_refused, inputs_refused, device_refused}
+use Rattle.cosim_device.specs.declared.refusal.PortRefusal.TheVariants as port
+use Rattle.cosim_cli.specs.Ended.{ended_status, show_refused, pack_refused, asm_refused, dis_refused, inputs_refused, device_refused, port_refused}
 use Rattle.cosim_cli.specs.Promises.{Around, Keeps, Promises, none_refused}
-use Rattle.cosim_cli.specs.Words.{Command, Device, Show, Pack, Asm, Dis, Direct, Help, words_of, Uses}
+use Rattle.cosim_cli.specs.Usage.{Uses}
+use Rattle.cosim_words.specs.Words.{Command, DeviceNull, DeviceTimer, DevicePort, Show, Pack, Asm, Dis, Direct, Help, IsInRange, words_of}
 
 -- No refusal is told as Usage, and so no command ends by it.
 abbrev NeverUsage : {R : Type 0} → (R → Status) → Type 0
@@ -44,6 +46,10 @@ inputs-never (inputs.DiskImage port len) index same = cc (same)
 device-never : NeverUsage device_refused
 device-never (device.Peer port fault) index same = cc (same)
 
+port-never : NeverUsage port_refused
+port-never (port.Inputs refusal) index same = inputs-never refusal index same
+port-never (port.Peer refusal) index same = device-never refusal index same
+
 none-never : NeverUsage none_refused
 none-never never index same = never
 
@@ -54,7 +60,9 @@ ended-never refused never (Err (Outside object count)) index same = cc (same)
 ended-never refused never (Err NoMemory) index same = cc (same)
 
 never-usage : {L : Type 0} (c : Command) (a : Around L) (index : ℕ) → Keeps c a (status.Usage index) → ⊥
-never-usage (Device socket) a index keeps = ended-never device_refused device-never keeps.result index keeps.status
+never-usage (DeviceNull socket) a index keeps = ended-never device_refused device-never keeps.result index keeps.status
+never-usage (DeviceTimer socket line) a index keeps = ended-never device_refused device-never keeps.result index keeps.status
+never-usage (DevicePort socket config port) a index keeps = ended-never port_refused port-never keeps.result index keeps.status
 never-usage (Show file) a index keeps = ended-never show_refused show-never keeps.result index keeps.status
 never-usage (Pack file) a index keeps = ended-never pack_refused pack-never keeps.result index keeps.status
 never-usage (Asm file out) a index keeps = ended-never asm_refused asm-never keeps.result index keeps.status
@@ -62,20 +70,20 @@ never-usage (Dis file) a index keeps = ended-never dis_refused dis-never keeps.r
 never-usage (Direct config) a index keeps = ended-never inputs_refused inputs-never keeps.result index keeps.status
 never-usage Help a index keeps = ended-never none_refused none-never keeps.result index keeps.status
 
-pub kept-uses : {L : Type 0} (words : List (List ℕ)) (c : Command) (a : Around L) (s : Status) → words ≡ words_of c → Keeps c a s → Uses words s
-kept-uses words c a status.Done is keeps = (c, is)
-kept-uses words c a (status.Usage index) is keeps = absurd (never-usage c a index keeps)
-kept-uses words c a (status.Config e) is keeps = (c, is)
-kept-uses words c a (status.Input e) is keeps = (c, is)
-kept-uses words c a (status.Peer port e) is keeps = (c, is)
-kept-uses words c a (status.Outside o count) is keeps = (c, is)
-kept-uses words c a status.NoMemory is keeps = (c, is)
+pub kept-uses : {L : Type 0} (words : List (List ℕ)) (c : Command) (a : Around L) (s : Status) → IsInRange c → words ≡ words_of c → Keeps c a s → Uses words s
+kept-uses words c a status.Done inside is keeps = (c, inside, is)
+kept-uses words c a (status.Usage index) inside is keeps = absurd (never-usage c a index keeps)
+kept-uses words c a (status.Config e) inside is keeps = (c, inside, is)
+kept-uses words c a (status.Input e) inside is keeps = (c, inside, is)
+kept-uses words c a (status.Peer port e) inside is keeps = (c, inside, is)
+kept-uses words c a (status.Outside o count) inside is keeps = (c, inside, is)
+kept-uses words c a status.NoMemory inside is keeps = (c, inside, is)
 
-pub kept-promises : {L : Type 0} (words : List (List ℕ)) (c : Command) (a : Around L) (s : Status) → words ≡ words_of c → Keeps c a s → Promises words a s
-kept-promises words c a status.Done is keeps = (c, is, keeps)
-kept-promises words c a (status.Usage index) is keeps = absurd (never-usage c a index keeps)
-kept-promises words c a (status.Config e) is keeps = (c, is, keeps)
-kept-promises words c a (status.Input e) is keeps = (c, is, keeps)
-kept-promises words c a (status.Peer port e) is keeps = (c, is, keeps)
-kept-promises words c a (status.Outside o count) is keeps = (c, is, keeps)
-kept-promises words c a status.NoMemory is keeps = (c, is, keeps)
+pub kept-promises : {L : Type 0} (words : List (List ℕ)) (c : Command) (a : Around L) (s : Status) → IsInRange c → words ≡ words_of c → Keeps c a s → Promises words a s
+kept-promises words c a status.Done inside is keeps = (c, inside, is, keeps)
+kept-promises words c a (status.Usage index) inside is keeps = absurd (never-usage c a index keeps)
+kept-promises words c a (status.Config e) inside is keeps = (c, inside, is, keeps)
+kept-promises words c a (status.Input e) inside is keeps = (c, inside, is, keeps)
+kept-promises words c a (status.Peer port e) inside is keeps = (c, inside, is, keeps)
+kept-promises words c a (status.Outside o count) inside is keeps = (c, inside, is, keeps)
+kept-promises words c a status.NoMemory inside is keeps = (c, inside, is, keeps)

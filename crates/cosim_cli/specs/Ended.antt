@@ -19,6 +19,8 @@ use Rattle.cosim_packets.specs.declared.refusals.ShowRefusal.{ShowRefusal}
 use Rattle.cosim_packets.specs.declared.refusals.ShowRefusal.TheVariants as show
 use Rattle.cosim_serve.specs.declared.refusal.DeviceRefusal.{DeviceRefusal}
 use Rattle.cosim_serve.specs.declared.refusal.DeviceRefusal.TheVariants as device
+use Rattle.cosim_device.specs.declared.refusal.PortRefusal.{PortRefusal}
+use Rattle.cosim_device.specs.declared.refusal.PortRefusal.TheVariants as port
 
 abbrev pub ended_status : {R : Type 0} → (R → Status) → Result Unit (Stop R) → Status
 ended_status refused (Ok u) = status.Done
@@ -49,3 +51,7 @@ inputs_refused (inputs.DiskImage port len) = status.Input (input.DiskImage port 
 
 abbrev pub device_refused : DeviceRefusal → Status
 device_refused (device.Peer port fault) = status.Peer port fault
+
+abbrev pub port_refused : PortRefusal → Status
+port_refused (port.Inputs refusal) = inputs_refused refusal
+port_refused (port.Peer refusal) = device_refused refusal

@@ -16,13 +16,20 @@ use Rattle.cosim_assembly.specs.Listings.{DisComes}
 use Rattle.cosim_direct.specs.Directs.{DirectComes, direct_names}
 use Rattle.cosim_packets.specs.Packed.{Packed}
 use Rattle.cosim_packets.specs.Shown.{Shown}
+use Rattle.cosim_model.specs.Parts.{DeviceModel}
+use Rattle.ends_model.specs.DeviceTurn.{DeviceEnd}
+use Rattle.rp_packet.specs.declared.fault.Cause.{Cause}
 use Rattle.cos_parts.specs.Nulls.{null_model}
 use Rattle.cosim_serve.specs.Serves.{NetView, ServesFresh}
-use Rattle.cosim_device.specs.Starts.{null_start}
+use Rattle.dev_timer.specs.Timers.{timer_model}
+use Rattle.cosim_device.specs.Starts.{null_start, timer_start}
+use Rattle.cosim_device.specs.Served.{PortEnded, PortView, ServesPort}
 use Rattle.cosim_serve.specs.Talks.{Ended}
-use Rattle.cosim_cli.specs.Ended.{ended_status, show_refused, pack_refused, asm_refused, dis_refused, inputs_refused, device_refused}
+use Rattle.cosim_cli.specs.Ended.{ended_status, show_refused, pack_refused, asm_refused, dis_refused, inputs_refused}
+use Rattle.cosim_cli.specs.Ended.{device_refused, port_refused}
 use Rattle.cosim_cli.specs.Help.{Helps}
-use Rattle.cosim_cli.specs.Words.{Command, Device, Show, Pack, Asm, Dis, Direct, Help, words_of}
+use Rattle.cosim_words.specs.Words.{Command, DeviceNull, DeviceTimer, DevicePort, Show, Pack, Asm, Dis, Direct, Help}
+use Rattle.cosim_words.specs.Words.{IsInRange, words_of}
 
 -- what is around a call: its objects before and after it, the names that the files were asked for, whether the objects
 -- are sound before it, the room of `out`, and what the links of the network tell and count
@@ -51,14 +58,26 @@ pub record Performed {L R : Type 0} (refused : R → Status) (Comes : Outcome R 
 abbrev pub view_of : {L : Type 0} → Around L → NetView L
 view_of a = record { told = a.told; count = a.count; is_sound = a.sound_net }
 
--- A null device served the first link that was to come, the status is that of how it ended, and the files and `out` are
--- untouched.
-pub record Served {L : Type 0} (socket : List ℕ) (a : Around L) (s : Status) : Type 0 where
+-- A device whose fresh end this is served the first link that was to come, the status is that of how it ended, and the
+-- files and `out` are untouched.
+pub record Served {L S : Type 0} (d : DeviceModel S) (start : DeviceEnd S Cause) (socket : List ℕ) (a : Around L)
+    (s : Status) : Type 0 where
   pub result : Ended
-  pub serves : ServesFresh null_model null_start 0 (view_of a) socket a.net result
+  pub serves : ServesFresh d start 0 (view_of a) socket a.net result
   pub status : s ≡ ended_status device_refused result
   pub files : IsUntouched a.files
   pub asks : AsksNone a.names
+  pub out : IsUntouched a.out
+
+abbrev pub port_view : {L : Type 0} → Around L → PortView L
+port_view a =
+    record { files = a.files; names = a.names; is_sound = a.sound_files; net = a.net; links = view_of a }
+
+-- The device of a configuration's port served that link, the status is that of how it ended, and `out` is untouched.
+pub record ServedPort {L : Type 0} (socket config : List ℕ) (port : ℕ) (a : Around L) (s : Status) : Type 0 where
+  pub result : PortEnded
+  pub serves : ServesPort config port socket (port_view a) result
+  pub status : s ≡ ended_status port_refused result
   pub out : IsUntouched a.out
 
 -- it refuses nothing
@@ -67,7 +86,9 @@ none_refused never = absurd never
 
 -- what each command promises
 abbrev pub Keeps : {L : Type 0} → Command → Around L → Status → Type 0
-Keeps (Device socket) a s = Served socket a s
+Keeps (DeviceNull socket) a s = Served null_model null_start socket a s
+Keeps (DeviceTimer socket line) a s = Served timer_model (timer_start line) socket a s
+Keeps (DevicePort socket config port) a s = ServedPort socket config port a s
 Keeps (Show file) a s = Performed show_refused (OfFile file Shown a.files.old) (λ m. file ∷ []) [] a s
 Keeps (Pack file) a s = Performed pack_refused (OfFile file Packed a.files.old) (λ m. file ∷ []) [] a s
 Keeps (Asm file out) a s = Performed asm_refused (AsmComes file out a.files.old) (λ m. file ∷ []) (out ∷ []) a s
@@ -77,7 +98,7 @@ Keeps Help a s = Performed none_refused Helps (λ m. []) [] a s
 
 -- the words are those of a command, and it keeps its promise
 abbrev pub KeepsSome : {L : Type 0} → List (List ℕ) → Around L → Status → Type 0
-KeepsSome words a s = (c : Command) × (words ≡ words_of c) × Keeps c a s
+KeepsSome words a s = (c : Command) × IsInRange c × (words ≡ words_of c) × Keeps c a s
 
 -- The program does nothing where its words are no command, and otherwise keeps the command's promise.
 abbrev pub Promises : {L : Type 0} → List (List ℕ) → Around L → Status → Type 0

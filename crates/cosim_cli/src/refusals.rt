@@ -1,9 +1,10 @@
 // How a command ended, as a status of the program.
 ghost use Rattle.std.specs.Prelude.{◌≡◌};
 ghost use Rattle.statuses.specs.declared.status.Status.{Status};
-ghost use Rattle.cosim_cli.specs.Ended.{ended_status, show_refused, pack_refused, asm_refused, dis_refused, inputs_refused, device_refused};
+ghost use Rattle.cosim_cli.specs.Ended.{ended_status, show_refused, pack_refused, asm_refused, dis_refused, inputs_refused, device_refused, port_refused};
 
 use cosim_assembly::{AsmRefusal, DisRefusal};
+use cosim_device::PortRefusal;
 use cosim_inputs::InputsRefusal;
 use cosim_packets::{PackRefusal, ShowRefusal};
 use cosim_serve::DeviceRefusal;
@@ -104,6 +105,17 @@ impl Refusal for DeviceRefusal {
     fn status(self) -> Status {
         match self {
             DeviceRefusal::Peer { port, fault } => Status::Peer { port, fault },
+        }
+    }
+}
+
+impl Refusal for PortRefusal {
+    ghost refused = { port_refused };
+
+    fn status(self) -> Status {
+        match self {
+            PortRefusal::Inputs(refusal) => refusal.status(),
+            PortRefusal::Peer(refusal) => refusal.status(),
         }
     }
 }

@@ -5,16 +5,17 @@ ghost use Rattle.outcomes.specs.Asked.{asking};
 ghost use Rattle.statuses.specs.Lines.{TellsStatus, line_of};
 ghost use Rattle.statuses.specs.Takes.{TakesAll};
 ghost use Rattle.cosim_cli.specs.Promises.{Keeps, Promises};
-ghost use Rattle.cosim_cli.specs.Words.{Uses, StopsAt, asked};
+ghost use Rattle.cosim_cli.specs.Usage.{Uses, StopsAt};
+ghost use Rattle.cosim_words.specs.Words.{asked};
 
 use crate::help::help;
 use crate::refusals::status_of;
-use crate::words::{Command, command_of, stop_of};
 use cos_base::{Files, Network, Sink};
 use cosim_assembly::{asm, dis};
-use cosim_device::device;
+use cosim_device::{serve_null, serve_port, serve_timer};
 use cosim_direct::direct;
 use cosim_packets::{pack, show};
+use cosim_words::{Command, command_of, stop_of};
 use outcomes::{Object, OutFailure};
 use statuses::{Status, tell_status};
 use std::alloc::Global;
@@ -41,7 +42,13 @@ fn perform<F: Files, K: Sink, N: Network>(
     }) result }
 {
     match command {
-        Command::Device { socket } => status_of(device(alloc, socket, net)),
+        Command::DeviceNull { socket } => status_of(serve_null(alloc, socket, net)),
+        Command::DeviceTimer { socket, line } => status_of(serve_timer(alloc, socket, line, net)),
+        Command::DevicePort {
+            socket,
+            config,
+            port,
+        } => status_of(serve_port(alloc, socket, config, port, files, net)),
         Command::Show { file } => status_of(show(alloc, file, files, out)),
         Command::Pack { file } => status_of(pack(alloc, file, files, out)),
         Command::Asm { file, out: target } => status_of(asm(alloc, file, target, files)),
@@ -62,6 +69,8 @@ fn perform<F: Files, K: Sink, N: Network>(
 /// | Words | Work |
 /// |---|---|
 /// | `device SOCKET null` | connects to SOCKET, answers as a null device until the machine closes the stream, and prints nothing |
+/// | `device SOCKET timer LINE` | the same as a timer, whose level goes to LINE, 0 to 31 |
+/// | `device SOCKET CONFIG PORT` | the same as the device of a configuration's port, of which it reads the UART's input or the disk's image; a disk's sectors are written to its `result` in the end |
 /// | `show FILE` | prints a line for each packet of a stream; before a refusal those of the packets before it |
 /// | `pack FILE` | prints the canonical bytes of a text of packets |
 /// | `asm FILE OUT` | writes the image of an assembly to OUT, and prints nothing |

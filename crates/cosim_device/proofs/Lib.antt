@@ -1,1 +1,3 @@
 mod Unserved
+mod Finding
+mod Finishing

@@ -1,1 +1,4 @@
 pub mod Starts
+pub mod Ports
+pub mod Served
+pub mod Making

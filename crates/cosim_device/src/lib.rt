@@ -1,6 +1,10 @@
-//! The command `device`: a device of which no configuration speaks is made, and served at a socket.
+//! The command `device`: a device is made, of its own or of a configuration's port, and served at a socket.
 #![tactic(auto)]
 
-mod command;
+mod plain;
+mod port;
+mod refusal;
 
-pub use command::device;
+pub use plain::{serve_null, serve_timer};
+pub use port::serve_port;
+pub use refusal::PortRefusal;

@@ -15,8 +15,8 @@ use Rattle.cos_config.specs.Reading.{Reads}
 use Rattle.cos_config.specs.Rules.{config_found}
 use Rattle.cos_config.specs.Settings.{config_of}
 use Rattle.cosim_inputs.specs.Judging.{by_rules, judged_as, judged}
-use Rattle.cosim_inputs.specs.Limits.{IsWithinLimits}
-use Rattle.cosim_inputs.proofs.Limiting.{kept-within}
+use Rattle.cosim_inputs.specs.Limits.{IsWithinLimits, HasServed}
+use Rattle.cosim_inputs.proofs.Limiting.{kept-within, kept-served}
 
 abbrev pub Gives : Result Config ConfigFault → Result Config ConfigFault → Type 0
 Gives judged r = MatchResult r (λ c. judged ≡ Ok c) (λ f. (f ≡ NoMemory) ⊎ (judged ≡ Err f))
@@ -53,6 +53,12 @@ pub judged-within : (sockets : Sockets) (bytes : List ℕ) (r : Result Config Co
     → IfOk r (λ c. (t : Members) × IsToml bytes t) → IfOk r IsWithinLimits
 judged-within sockets bytes (Ok c) toml (t, is) = let read = toml t is in subst IsWithinLimits (sym read.1) (kept-within sockets t read.0)
 judged-within sockets bytes (Err f) toml ok = tt
+
+-- and has the port that is to be served
+pub judged-served : (sockets : Sockets) (bytes : List ℕ) (r : Result Config ConfigFault) → ((t : Members) → IsToml bytes t → Reads Config (config_found sockets t) (config_of t) r)
+    → IfOk r (λ c. (t : Members) × IsToml bytes t) → IfOk r (HasServed sockets)
+judged-served sockets bytes (Ok c) toml (t, is) = let read = toml t is in subst (HasServed sockets) (sym read.1) (kept-served sockets t read.0)
+judged-served sockets bytes (Err f) toml ok = tt
 
 pub gives-ok : (j r : Result Config ConfigFault) → Gives j r → IfOk r (λ c. j ≡ Ok c)
 gives-ok j (Ok c) is = is

@@ -1,23 +1,25 @@
 use Rattle.std.specs.Prelude.{map, is_some, option_map, option_and_then, unwrap_or, codes, nat_le, nat_eq, ◌&&◌, if◌then◌else◌, nat_lt, IsSome, ℤ, pos, negsuc}
-use Rattle.std.proofs.Common.{ℕ, ◌≡◌, ◌+◌, ◌%◌, ◌≤◌, suc, Bool, true, false, List, [], ◌∷◌, length, Option, Some, None, refl, sym, ap, ◌∙◌, subst, arith}
-use Rattle.std.proofs.lemmas.Bool.{leb-true, eqb-true, ltb-false}
+use Rattle.std.proofs.Common.{ℕ, ◌≡◌, ◌+◌, ◌%◌, ◌<◌, ◌≤◌, suc, Bool, true, false, List, [], ◌∷◌, length, Option, Some, None, refl, sym, ap, ◌∙◌, subst, arith}
+use Rattle.std.proofs.lemmas.Bool.{leb-true, eqb-true, ltb-true, ltb-false}
 use Rattle.toml.specs.Data.{Data, string, integer, Members, get_member}
 use Rattle.cos_config.specs.declared.config.MachineKind.{MachineKind}
 use Rattle.cos_config.specs.declared.config.MachineKind.TheVariants.{Rv, Script}
 use Rattle.cos_config.specs.declared.config.PortKind.{PortKind}
 use Rattle.cos_config.specs.declared.config.PortKind.TheVariants.{Null, Timer, Uart, Dma, Disk}
 use Rattle.cos_config.specs.declared.config.PortConfig.{PortConfig}
+use Rattle.cos_config.specs.declared.config.Config.{Config}
 use Rattle.cos_config.specs.declared.config.Sockets.{Sockets}
+use Rattle.cos_config.specs.declared.config.Sockets.TheVariants.{Unneeded, All, Port}
 use Rattle.cos_config.specs.declared.fault.TableName.{TableName}
 use Rattle.cos_config.specs.declared.fault.TableName.TheVariants.{Machine, Port as PortTable}
-use Rattle.cos_config.specs.declared.fault.ConfigFault.TheVariants.{TooMany}
+use Rattle.cos_config.specs.declared.fault.ConfigFault.TheVariants.{Missing, TooMany}
 use Rattle.cos_config.specs.First.{Found, or_else, first_of}
 use Rattle.cos_config.specs.Keys.{A_word, A_number, A_text, Key, is_within, number_in, number_found, value_found, at_found, key_found, name_of, unknown_found, keys_found, table_found}
 use Rattle.cos_config.specs.Tables.{as_text, text_at, machine_kind_of, port_kind_of, machine_kind_at, port_kind_at, required_key, optional_key, machine_keys, port_keys}
 use Rattle.cos_config.specs.Settings.{number_at, port_with, port_of, ports_of, config_with, machine_of, machine_table, port_tables, config_of}
 use Rattle.cos_map.specs.Parts.{overlap_found}
-use Rattle.cos_config.specs.Rules.{needs_socket, port_found, each_port_found, too_many_found, top_found, tables_found, parts_found, config_found, overlap_fault, parts}
-use Rattle.cosim_inputs.specs.Limits.{IsPort, ArePorts, IsMachine, IsWithinLimits}
+use Rattle.cos_config.specs.Rules.{needs_socket, needs_found, lines_found, served_found, port_found, each_port_found, too_many_found, top_found, tables_found, parts_found, config_found, overlap_fault, parts}
+use Rattle.cosim_inputs.specs.Limits.{IsPort, ArePorts, IsMachine, IsWithinLimits, HasServed}
 
 -- Where nothing is found by one rule or the next, both are kept.
 pub or_else-none : (a b : Found) → or_else a b ≡ None → (a ≡ None) × (b ≡ None)
@@ -237,3 +239,23 @@ kept-within sockets m none =
       ports = ports-kept sockets 0 (port_tables m) each.0;
       apart = unmapped (overlap_found 0 (parts (config_of m))) apart.0;
     }
+
+there-kept : (p count : ℕ) → served_found (Port p) count ≡ None → p < count
+there-kept p count none = ltb-true p count (if-none (nat_lt p count) _ (λ e. cc) none)
+
+served-kept : (sockets : Sockets) (c : Config) → served_found sockets (length c.ports) ≡ None → HasServed sockets c
+served-kept Unneeded c none = tt
+served-kept All c none = tt
+served-kept (Port p) c none = there-kept p (length c.ports) none
+
+-- It has the port that is to be served.
+pub kept-served : (sockets : Sockets) (m : Members) → config_found sockets m ≡ None → HasServed sockets (config_of m)
+kept-served sockets m none =
+    let c = config_of m in
+    let top = or_else-none (top_found m) (first_of (tables_found sockets m ∷ parts_found sockets c ∷ [])) none in
+    let rest = or_else-none (tables_found sockets m) (first_of (parts_found sockets c ∷ [])) top.1 in
+    let whole = or_else-none (parts_found sockets c) None rest.1 in
+    let lines = or_else-none (option_map overlap_fault (overlap_found 0 (parts c))) _ whole.0 in
+    let needs = or_else-none (lines_found 0 c.ports) _ lines.1 in
+    let served = or_else-none (needs_found 0 c.ports) _ needs.1 in
+    served-kept sockets c (or_else-none (served_found sockets (length c.ports)) None served.1).0

@@ -4,6 +4,8 @@ use Rattle.cos_config.specs.declared.config.MachineKind.TheVariants.{Rv, Script}
 use Rattle.cos_config.specs.declared.config.PortKind.TheVariants.{Disk}
 use Rattle.cos_config.specs.declared.config.PortConfig.{PortConfig}
 use Rattle.cos_config.specs.declared.config.Config.{Config}
+use Rattle.cos_config.specs.declared.config.Sockets.{Sockets}
+use Rattle.cos_config.specs.declared.config.Sockets.TheVariants.{Unneeded, All, Port}
 use Rattle.cos_map.specs.Parts.{overlap_found}
 use Rattle.cos_config.specs.Rules.{parts}
 
@@ -34,3 +36,9 @@ pub record IsWithinLimits (c : Config) : Type 0 where
   pub few : length c.ports ≤ 16
   pub ports : ArePorts c.ports
   pub apart : overlap_found 0 (parts c) ≡ None
+
+-- The port whose device is to be served is there.
+abbrev pub HasServed : Sockets → Config → Type 0
+HasServed Unneeded c = Unit {0}
+HasServed All c = Unit {0}
+HasServed (Port p) c = p < length c.ports

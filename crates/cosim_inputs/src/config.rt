@@ -2,7 +2,7 @@
 ghost use Rattle.std.specs.Prelude.{◌≡◌, ◌⊎◌, ◌∷◌, [], Ok, Err, IfOk, IfErr};
 ghost use Rattle.outcomes.specs.Seen.{seen};
 ghost use Rattle.outcomes.specs.Asked.{asking, AsksEach};
-ghost use Rattle.cosim_inputs.specs.Limits.{IsWithinLimits};
+ghost use Rattle.cosim_inputs.specs.Limits.{IsWithinLimits, HasServed};
 ghost use Rattle.cosim_inputs.specs.Judging.{judged};
 ghost use Rattle.cosim_inputs.specs.Configs.{IsConfigRead, IsConfigUnread, IsConfigLacking};
 
@@ -17,6 +17,7 @@ fn judge_text(alloc: Global, bytes: &[u8], sockets: Sockets) -> Result<Config, C
     ensures ok { IfOk result (λ c. judged sockets bytes.now ≡ Ok c) }
     ensures err { IfErr result (λ f. (f ≡ ConfigFault.NoMemory) ⊎ (judged sockets bytes.now ≡ Err f)) }
     ensures limits { IfOk result IsWithinLimits }
+    ensures served { IfOk result (HasServed sockets) }
 {
     judge(alloc, bytes, sockets)
 }
@@ -32,6 +33,8 @@ pub fn read_config<F: Files>(
     ensures ok { IfOk result (IsConfigRead sockets (seen F.count F.told files.old files.new) name.now) }
     // Its settings are within the limits.
     ensures limits { IfOk result IsWithinLimits }
+    // The port whose device is to be served is there.
+    ensures served { IfOk result (HasServed sockets) }
     // The first rule that it breaks, the files blamed, or no memory.
     ensures err { IfErr result (IsConfigUnread sockets (seen F.count F.told files.old files.new) name.now) }
     // It asks for its name, once.

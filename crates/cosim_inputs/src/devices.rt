@@ -152,8 +152,9 @@ fn read_disk<F: Files>(
     }
 }
 
-/// The device of a port, at reset.
-fn read_device<F: Files>(
+/// The device of a port, at reset. The file that it names is read, and then judged; what is answered in place of the device is how
+/// the command ends.
+pub fn read_device<F: Files>(
     alloc: Global,
     files: &mut F,
     port: u32,

@@ -4,15 +4,37 @@ use Rattle.cosim_cli.proofs.Performing.{performs-under}
 use Rattle.cosim_cli.proofs.top.perform.Goals as goal
 use Rattle.std.specs.declared.result.Result.TheVariants.{Ok, Err}
 
-pub returns-in-Device : goal.returns-in-Device
-returns-in-Device g c =
-    rw c.in-Device.is
+pub returns-in-DeviceNull : goal.returns-in-DeviceNull
+returns-in-DeviceNull g c =
+    rw c.in-DeviceNull.is
     (record {
-      result = c.device.result;
-      serves = c.device.ensures;
+      result = c.serve_null.result;
+      serves = c.serve_null.ensures;
       status = c.status_of.ensures;
       files = record { count = refl; same = refl };
       asks = refl;
+      out = record { count = refl; same = refl };
+    })
+
+pub returns-in-DeviceTimer : goal.returns-in-DeviceTimer
+returns-in-DeviceTimer g c =
+    rw c.in-DeviceTimer.is
+    (record {
+      result = c.serve_timer.result;
+      serves = c.serve_timer.ensures;
+      status = c.status_of-in-DeviceTimer.ensures;
+      files = record { count = refl; same = refl };
+      asks = refl;
+      out = record { count = refl; same = refl };
+    })
+
+pub returns-in-DevicePort : goal.returns-in-DevicePort
+returns-in-DevicePort g c =
+    rw c.in-DevicePort.is
+    (record {
+      result = c.serve_port.result;
+      serves = c.serve_port.ensures;
+      status = c.status_of-in-DevicePort.ensures;
       out = record { count = refl; same = refl };
     })
 

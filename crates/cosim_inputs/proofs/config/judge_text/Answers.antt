@@ -1,4 +1,4 @@
-use Rattle.cosim_inputs.proofs.Judged.{judges, judged-within, gives-ok, gives-err}
+use Rattle.cosim_inputs.proofs.Judged.{judges, judged-within, judged-served, gives-ok, gives-err}
 use Rattle.cosim_inputs.proofs.config.judge_text.Goals as goal
 
 pub returns-clause-ok : goal.returns-clause-ok
@@ -9,3 +9,6 @@ returns-clause-err c = gives-err _ _ (judges c.args.sockets c.args.bytes.now c.j
 
 pub returns-clause-limits : goal.returns-clause-limits
 returns-clause-limits c = judged-within c.args.sockets c.args.bytes.now c.judge.result c.judge.ensures.toml c.judge.ensures.ok
+
+pub returns-clause-served : goal.returns-clause-served
+returns-clause-served c = judged-served c.args.sockets c.args.bytes.now c.judge.result c.judge.ensures.toml c.judge.ensures.ok
