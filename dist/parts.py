@@ -53,12 +53,20 @@ def size(name):
     return total
 
 
+def seconds():
+    """The seconds that crates took in a build that was timed; `dist/build 4 --times` prints such a list."""
+    with open(os.path.join(TOP, "dist", "seconds"), encoding="utf-8") as file:
+        return {name: float(taken) for name, taken in (line.split() for line in file)}
+
+
 def ways(crates):
-    """Of each crate how long the longest way over the crates above it is, itself among them, in bytes of sources."""
+    """Of each crate how long the longest way over the crates above it is, itself among them, in seconds. Of a crate that wasn't
+    timed they are guessed by the bytes of its sources."""
+    timed = seconds()
     longest = {}
     for name in reversed(crates):
         above = [longest[upper] for upper in crates if name in crates[upper]]
-        longest[name] = size(name) + max(above, default=0)
+        longest[name] = timed.get(name, size(name) / 1000) + max(above, default=0)
     return longest
 
 

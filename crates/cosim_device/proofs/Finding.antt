@@ -1,8 +1,10 @@
 -- What stands against making the device of a port, by what its configuration was judged and what its file holds.
-use Rattle.std.specs.Prelude.{IfSome, IsSomeAnd, IsSome, slice_get}
-use Rattle.std.proofs.Common.{ℕ, ◌≡◌, List, [], ◌∷◌, ◌++◌, refl, ap, sym, ◌∙◌, subst, append_assoc}
+use Rattle.std.specs.Prelude.{IfOk, IfErr, IfSome, IsSomeAnd, IsSome, slice_get}
+use Rattle.std.proofs.Common.{ℕ, zero, suc, ◌≡◌, ◌<◌, List, [], ◌∷◌, ◌++◌, length, get_or, arith, ap, sym, ◌∙◌, subst, append_assoc}
+use Rattle.std.proofs.lemmas.Option.{same_Some}
 use Rattle.std.specs.declared.option.Option.{Option}
 use Rattle.std.specs.declared.option.Option.TheVariants.{Some, None}
+use Rattle.std.specs.declared.result.Result.{Result}
 use Rattle.std.specs.declared.result.Result.TheVariants.{Ok, Err}
 use Rattle.cos_base.specs.Stores.{Store}
 use Rattle.cos_config.specs.declared.config.Config.{Config as Settings}
@@ -12,7 +14,7 @@ use Rattle.cos_config.specs.declared.fault.ConfigFault.{ConfigFault}
 use Rattle.cos_parts.specs.declared.any_device.AnyDevice.{AnyDevice}
 use Rattle.outcomes.specs.declared.failures.ReadFault.{ReadFault}
 use Rattle.outcomes.specs.declared.failures.ReadFault.TheVariants.{Refused, Failed, NoMemory}
-use Rattle.outcomes.specs.Asked.{Asking, AsksAll, Begins, AsksSome, AsksUpTo}
+use Rattle.outcomes.specs.Asked.{Asking, AsksAll, Begins, AsksSome, AsksUpTo, AsksEach}
 use Rattle.outcomes.specs.Seen.{Seen}
 use Rattle.outcomes.specs.Outcomes.{Outcome, Lacks, Refuses}
 use Rattle.outcomes.specs.Steps.{IsStanding, ComesUnread, ComesLacking}
@@ -24,10 +26,13 @@ use Rattle.cosim_inputs.specs.Configs.{IsConfigUnread, IsConfigLacking}
 use Rattle.cosim_inputs.specs.Fresh.{device_of}
 use Rattle.cosim_inputs.specs.Inputs.{trouble, port_files, names_read}
 use Rattle.cosim_inputs.specs.Judging.{judged}
+use Rattle.cosim_inputs.specs.Limits.{IsPort, ArePorts}
 use Rattle.cosim_inputs.specs.Reads.{AreRead, AreUnread, AreLacking}
 use Rattle.cosim_inputs.proofs.Asking.{all-told, some-told}
 use Rattle.cosim_inputs.proofs.Reading.{told-first}
 use Rattle.cosim_device.specs.Ports.{or_stands, port_found, judged_to, found_to, found, names_of, names_judged, names_found, port_names}
+use Rattle.cosim_device.specs.declared.port.PortEnd.{PortEnd}
+use Rattle.cosim_device.specs.Making.{IsEndOf, IsMade}
 use Rattle.cosim_device.specs.Served.{StandsAgainst}
 
 -- its file was judged this refusal, or this configuration
@@ -148,3 +153,44 @@ pub port-up-to : (name : List ℕ) (port : ℕ) (c : Settings) (p : PortConfig) 
 port-up-to name port c p a b (Refused r) is at joined first then = port-asks name port c p a b is at joined first then
 port-up-to name port c p a b (Failed n) is at joined first then = port-begins name port c p a b is at joined first then
 port-up-to name port c p a b NoMemory is at joined first then = port-begins name port c p a b is at joined first then
+
+-- What stands at a place of a list is looked up there.
+pub looked-up : (ps : List PortConfig) (n : ℕ) (x : PortConfig) → n < length ps → x ≡ get_or ps n x → slice_get ps n ≡ Some x
+looked-up [] n x small is = absurd (omega (arith, small))
+looked-up (p ∷ ps) zero x small is = ap (λ q. Some q) (sym is)
+looked-up (p ∷ ps) (suc n) x small is = looked-up ps n x (omega (arith, small)) is
+
+-- A port of some that are within limits is.
+pub port-got : (ps : List PortConfig) (n : ℕ) (x : PortConfig) → ArePorts ps → slice_get ps n ≡ Some x → IsPort x
+port-got [] n x are got = absurd (cc (got))
+port-got (p ∷ ps) zero x are got = subst IsPort (same_Some p x got) are.0
+port-got (p ∷ ps) (suc n) x are got = port-got ps n x are.1 got
+
+-- The end of the port's device, behind a configuration that was read.
+
+pub end-made : (f g : Seen Store) (name : List ℕ) (port : ℕ) (c : Settings) (p : PortConfig) (r : Result PortEnd (ReadFault InputsRefusal)) → IsStanding f → IsOfFile f.old name port c → slice_get c.ports port ≡ Some p
+    → g.before ≡ f.now → g.old ≡ f.new → IfOk r (λ e. AreRead g (port_files port p)) → IfOk r (λ e. IsEndOf g.old p e) → IfOk r (λ e. IsMade (both f g) name port e)
+end-made f g name port c p (Err fault) stands is at joined same are of = tt
+end-made f g name port c p (Ok e) stands is at joined same are of = record {
+  stands = stands-after f g stands joined same are.stands;
+  settings = p;
+  is_found = port-fine f.old name port c p e.end.clear.device is at (told-first (λ m x. trouble m (port_files port x) ≡ None) f g p stands same are.fine)
+      (told-first (λ m x. e.end.clear.device ≡ device_of m x) f g p stands same of.device);
+  end = of.end;
+  result = of.result;
+}
+
+pub end-unread : (f g : Seen Store) (name : List ℕ) (port : ℕ) (c : Settings) (p : PortConfig) (r : Result PortEnd (ReadFault InputsRefusal)) → IsStanding f → IsOfFile f.old name port c → slice_get c.ports port ≡ Some p
+    → g.before ≡ f.now → g.old ≡ f.new → IfErr r (AreUnread g (port_files port p)) → IfErr r (λ e. ComesUnread (StandsAgainst f.old name port) (both f g) e)
+end-unread f g name port c p (Ok e) stands is at joined same unread = tt
+end-unread f g name port c p (Err fault) stands is at joined same unread = port-unread f g name port c p fault stands is at joined same unread
+
+pub end-lacks : (f g : Seen Store) (name : List ℕ) (port : ℕ) (c : Settings) (p : PortConfig) (r : Result PortEnd (ReadFault InputsRefusal)) → IsSome f.old → IsStanding f → IsOfFile f.old name port c → slice_get c.ports port ≡ Some p
+    → g.old ≡ f.new → IfErr r (AreLacking g.old (port_files port p)) → IfErr r (λ e. ComesLacking (StandsAgainst f.old name port) e)
+end-lacks f g name port c p (Ok e) some stands is at same lacking = tt
+end-lacks f g name port c p (Err fault) some stands is at same lacking = port-lacks f g name port c p fault some stands is at same lacking
+
+pub end-asks : (name : List ℕ) (port : ℕ) (c : Settings) (p : PortConfig) (a b : Asking) (r : Result PortEnd (ReadFault InputsRefusal)) → IsOfFile a.held name port c → slice_get c.ports port ≡ Some p → Joined a b
+    → AsksAll a (λ m. name ∷ []) → AsksEach (names_read (port_files port p)) b r → AsksEach (port_names name port) (both_asked a b) r
+end-asks name port c p a b (Ok e) is at joined first then = port-asks name port c p a b is at joined first then
+end-asks name port c p a b (Err fault) is at joined first then = port-up-to name port c p a b fault is at joined first then

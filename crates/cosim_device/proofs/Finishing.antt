@@ -1,6 +1,6 @@
 -- What is written behind a conversation, behind the files that were read.
 use Rattle.std.specs.Prelude.{IfSome}
-use Rattle.std.proofs.Common.{ℕ, ◌≡◌, List, [], ◌∷◌, ◌++◌, refl, sym, ◌∙◌, subst}
+use Rattle.std.proofs.Common.{ℕ, ◌≡◌, List, [], ◌∷◌, ◌++◌, ◌∙◌, subst}
 use Rattle.std.proofs.lemmas.List.{append-nil}
 use Rattle.std.specs.declared.option.Option.{Option}
 use Rattle.std.specs.declared.option.Option.TheVariants.{Some, None}
@@ -15,7 +15,8 @@ use Rattle.outcomes.specs.Seen.{Seen}
 use Rattle.outcomes.specs.Steps.{IsStanding, IsWritten}
 use Rattle.outcomes.proofs.After.{both, joined-told, stand-after-of, stands-after, blamed-after}
 use Rattle.outcomes.proofs.Asking.{both_asked, Joined, all-both, all-same}
-use Rattle.cosim_device.specs.Served.{Writes, AsksWritten}
+use Rattle.cosim_serve.specs.Talks.{Ended}
+use Rattle.cosim_device.specs.Served.{PortEnded, Writes, AsksWritten, Finishes}
 
 set-after : (old mid new : Option Store) (name bytes : List ℕ) → IfSome old (λ m. mid ≡ Some m) → IsSet mid name bytes new → IsSet old name bytes new
 set-after None mid new name bytes told set = tt
@@ -45,3 +46,19 @@ asks-after None a b reads w joined first then = bare-all a b reads joined first 
 asks-after (Some file) a b reads (Ok u) joined first then = all-both a b reads (λ m. file.name ∷ []) joined first then
 asks-after (Some file) a b reads (Err (Failed n)) joined first then = all-both a b reads (λ m. file.name ∷ []) joined first then
 asks-after (Some file) a b reads (Err NoMemory) joined first then = bare-all a b reads joined first then
+
+-- What was done behind the conversation was done behind all that was read.
+pub finishes-after : (file : Option Written) (reads : Names) (f g : Seen Store) (a b : Asking) (S T : Type 0) (served : Ended) (r : PortEnded) → IsStanding f → g.before ≡ f.now → g.old ≡ f.new → Joined a b → AsksAll a reads
+    → (S → T) → Finishes file (λ m. []) g b T served r → Finishes file reads (both f g) (both_asked a b) S served r
+finishes-after file reads f g a b S T (Ok u) r stands joined same asked first under finishes = record {
+  written = finishes.written;
+  ends = finishes.ends;
+  writes = writes-after file f g finishes.written stands joined same finishes.writes;
+  sound = λ s. finishes.sound (under s);
+  asks = asks-after file a b reads finishes.written asked first finishes.asks;
+}
+finishes-after file reads f g a b S T (Err stop) r stands joined same asked first under finishes = record {
+  ends = finishes.ends;
+  stands = stands-after f g stands joined same finishes.stands;
+  asks = bare-all a b reads asked first finishes.asks;
+}

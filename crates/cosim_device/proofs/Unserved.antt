@@ -1,5 +1,5 @@
 -- Where there is no memory for an end, nothing was done, and that is what serving promises then.
-use Rattle.std.proofs.Common.{◌≡◌, ℕ, List, [], ◌∷◌, ◌++◌, IfSome, inl, sym, ap, subst, Err}
+use Rattle.std.proofs.Common.{◌≡◌, ℕ, List, [], ◌∷◌, IfSome, inl, sym, ap, subst, Err}
 use Rattle.std.specs.Prelude.{Option, Some, None}
 use Rattle.std.proofs.lemmas.List.{append-nil}
 use Rattle.cos_base.specs.Links.{Wire}

@@ -88,21 +88,24 @@ AsksWritten (Some file) reads a (Err (files.Failed count)) = AsksAll a (λ m. re
 AsksWritten (Some file) reads a (Err files.NoMemory) = AsksAll a reads
 
 -- Behind a conversation that ended well the sectors of a disk are written; behind any other, nothing.
-pub record IsWrittenBehind {L : Type 0} (file : Option Written) (reads : Names) (a : PortView L) (r : PortEnded) : Type 0 where
+
+pub record IsWrittenBehind (file : Option Written) (reads : Names) (f : Seen Store) (names : Asking) (is_sound : Type 0)
+    (r : PortEnded) : Type 0 where
   pub written : Result Unit FilesFailure
   pub ends : r ≡ written_end written
-  pub writes : Writes file a.files written
-  pub sound : a.is_sound → BlamesNone written
-  pub asks : AsksWritten file reads a.names written
+  pub writes : Writes file f written
+  pub sound : is_sound → BlamesNone written
+  pub asks : AsksWritten file reads names written
 
-pub record IsLeft {L : Type 0} (stop : Stop DeviceRefusal) (reads : Names) (a : PortView L) (r : PortEnded) : Type 0 where
-  pub ends : r ≡ peer_end stop
-  pub stands : IsStanding a.files
-  pub asks : AsksAll a.names reads
+pub record IsLeft (stop : Stop DeviceRefusal) (reads : Names) (f : Seen Store) (names : Asking) (r : PortEnded) : Type 0
+  where
+    pub ends : r ≡ peer_end stop
+    pub stands : IsStanding f
+    pub asks : AsksAll names reads
 
-abbrev pub Finishes : {L : Type 0} → Option Written → Names → PortView L → Ended → PortEnded → Type 0
-Finishes file reads a (Ok u) r = IsWrittenBehind file reads a r
-Finishes file reads a (Err stop) r = IsLeft stop reads a r
+abbrev pub Finishes : Option Written → Names → Seen Store → Asking → Type 0 → Ended → PortEnded → Type 0
+Finishes file reads f names is_sound (Ok u) r = IsWrittenBehind file reads f names is_sound r
+Finishes file reads f names is_sound (Err stop) r = IsLeft stop reads f names r
 
 -- The device was made of what the files hold, and its end served the first link that was to come.
 pub record IsServed {L : Type 0} (config : List ℕ) (port : ℕ) (socket : List ℕ) (a : PortView L) (r : PortEnded) : Type 0 where
@@ -112,7 +115,7 @@ pub record IsServed {L : Type 0} (config : List ℕ) (port : ℕ) (socket : List
   pub left : DeviceEnd AnyDevice Cause
   pub served : Ended
   pub serves : Serves any_model (port_start settings device) left port a.links socket a.net served
-  pub finishes : Finishes (result_of settings.result left.device) (port_names config port) a served r
+  pub finishes : Finishes (result_of settings.result left.device) (port_names config port) a.files a.names a.is_sound served r
 
 abbrev pub ServesPort : {L : Type 0} → List ℕ → ℕ → List ℕ → PortView L → PortEnded → Type 0
 ServesPort config port socket a r = IsUnmade config port a r ⊎ IsServed config port socket a r

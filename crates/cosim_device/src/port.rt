@@ -1,15 +1,20 @@
 // The device of a configuration's port.
-ghost use Rattle.std.specs.Prelude.{◌≡◌, IfOk, IfErr};
+ghost use Rattle.std.specs.Prelude.{◌≡◌, [], IfOk, IfErr};
+ghost use Rattle.cos_parts.specs.AnyDevices.{any_seen};
+ghost use Rattle.device_turns.specs.Ends.{fresh};
 ghost use Rattle.outcomes.specs.Asked.{asking, AsksEach};
 ghost use Rattle.outcomes.specs.Seen.{seen};
 ghost use Rattle.outcomes.specs.Steps.{ComesUnread, ComesLacking, BlamesNone};
-ghost use Rattle.cosim_device.specs.Ports.{port_names, result_of};
-ghost use Rattle.cosim_device.specs.Served.{StandsAgainst, ServesPort, Writes, AsksWritten, unread_end, peer_end, written_end};
-ghost use Rattle.cosim_device.specs.Making.{IsMade};
+ghost use Rattle.cosim_inputs.specs.Limits.{IsPort};
+ghost use Rattle.cosim_inputs.specs.Inputs.{port_files, names_read};
+ghost use Rattle.cosim_inputs.specs.Reads.{AreRead, AreUnread, AreLacking};
+ghost use Rattle.cosim_device.specs.Ports.{port_names, port_start, result_of};
+ghost use Rattle.cosim_device.specs.Served.{StandsAgainst, ServesPort, Writes, AsksWritten, Finishes, unread_end, peer_end, written_end};
+ghost use Rattle.cosim_device.specs.Making.{IsEndOf, IsMade, ServesMade};
 
 use crate::refusal::PortRefusal;
 use cos_base::{Files, Network, NoMemory};
-use cos_config::{Name, Sockets};
+use cos_config::{Name, PortConfig, Sockets};
 use cos_parts::AnyDevice;
 use cosim_inputs::{InputsRefusal, read_config, read_device};
 use cosim_serve::{DeviceRefusal, serve_socket};
@@ -34,8 +39,48 @@ fn copy_of(alloc: Global, name: &Option<Name>) -> Result<Option<Name>, NoMemory>
     }
 }
 
+/// Makes the end of a device at reset, as the settings of its port say.
+fn make_end(alloc: Global, device: AnyDevice, settings: &PortConfig) -> Result<PortEnd, NoMemory>
+    requires { any_seen device ≡ 0 }
+    ensures end { IfOk result (λ p. p.end ≡ fresh (port_start settings.now device)) }
+    ensures result { IfOk result (λ p. p.result ≡ settings.now.result) }
+{
+    let name = match copy_of(alloc, &settings.result) {
+        Ok(name) => name,
+        Err(NoMemory) => return Err(NoMemory),
+    };
+    match DeviceEnd::make(alloc, device, settings.caps, settings.answered_lines) {
+        Ok(end) => Ok(PortEnd { end, result: name }),
+        Err(NoMemory) => Err(NoMemory),
+    }
+}
+
+/// Makes the end of a port's device by the port's settings, of the file that they name.
+fn read_end<F: Files>(
+    alloc: Global,
+    port: u32,
+    settings: &PortConfig,
+    files: &mut F,
+) -> Result<PortEnd, ReadFault<InputsRefusal>>
+    requires { IsPort settings.now }
+    ensures ok { IfOk result (λ _. AreRead (seen F.count F.told files.old files.new) (port_files port settings.now)) }
+    ensures end { IfOk result (λ p. IsEndOf (F.told files.old) settings.now p) }
+    ensures err { IfErr result (AreUnread (seen F.count F.told files.old files.new) (port_files port settings.now)) }
+    ensures asks { AsksEach (names_read (port_files port settings.now)) (asking F.told F.asked files.old files.new) result }
+    ensures is_sound { F.sound files.old → F.sound files.new × IfErr result (AreLacking (F.told files.old) (port_files port settings.now)) }
+{
+    let device = match read_device(alloc, files, port, settings) {
+        Ok(device) => device,
+        Err(fault) => return Err(fault),
+    };
+    match make_end(alloc, device, settings) {
+        Ok(made) => Ok(made),
+        Err(NoMemory) => Err(ReadFault::NoMemory),
+    }
+}
+
 /// Makes the end of a port's device, of the configuration and the file that it names for the port.
-fn make_end<F: Files>(
+fn read_port<F: Files>(
     alloc: Global,
     config: &str,
     port: u32,
@@ -46,15 +91,14 @@ fn make_end<F: Files>(
     ensures asks { AsksEach (port_names config.now port) (asking F.told F.asked files.old files.new) result }
     ensures is_sound { F.sound files.old → F.sound files.new × IfErr result (λ e. ComesLacking (StandsAgainst (F.told files.old) config.now port) e) }
 {
-    let config = read_config(alloc, files, config, Sockets::Port { port })?;
-    let settings = match config.ports.as_slice().get(port as usize) {
-        Some(settings) => settings,
-        None => unreachable!(),
+    let config = match read_config(alloc, files, config, Sockets::Port { port }) {
+        Ok(config) => config,
+        Err(fault) => return Err(fault),
     };
-    let device = read_device(alloc, files, port, settings)?;
-    let end = DeviceEnd::make(alloc, device, settings.caps, settings.answered_lines)?;
-    let result = copy_of(alloc, &settings.result)?;
-    Ok(PortEnd { end, result })
+    match config.ports.as_slice().get(port as usize) {
+        Some(settings) => read_end(alloc, port, settings, files),
+        None => unreachable!(),
+    }
 }
 
 /// Writes the sectors of a disk to the file that is named for them, and nothing of any other device.
@@ -64,7 +108,7 @@ fn write_result<F: Files>(
     device: &AnyDevice,
 ) -> Result<(), FilesFailure>
     ensures writes { Writes (result_of name.now device.now) (seen F.count F.told files.old files.new) result }
-    ensures asks { AsksWritten (result_of name.now device.now) (λ m. []) (asking F.told F.asked files.old files.new) result }
+    ensures asks { AsksWritten (result_of name.now device.now) (λ _. []) (asking F.told F.asked files.old files.new) result }
     ensures is_sound { F.sound files.old → BlamesNone result }
 {
     match (name, device) {
@@ -74,28 +118,77 @@ fn write_result<F: Files>(
 }
 
 /// How a file that couldn't be had ends the command.
-fn unread(fault: ReadFault<InputsRefusal>) -> Stop<PortRefusal>
-    ensures { Err result ≡ unread_end fault }
+fn unread(fault: ReadFault<InputsRefusal>) -> Result<(), Stop<PortRefusal>>
+    ensures { result ≡ unread_end fault }
 {
     match fault {
-        ReadFault::Refused(refusal) => Stop::Refused(PortRefusal::Inputs(refusal)),
-        ReadFault::Failed { count } => Stop::Outside {
+        ReadFault::Refused(refusal) => Err(Stop::Refused(PortRefusal::Inputs(refusal))),
+        ReadFault::Failed { count } => Err(Stop::Outside {
             object: Object::Files,
             count,
-        },
-        ReadFault::NoMemory => Stop::NoMemory,
+        }),
+        ReadFault::NoMemory => Err(Stop::NoMemory),
     }
 }
 
 /// How a conversation that didn't end well ends the command.
-fn unserved(stop: Stop<DeviceRefusal>) -> Stop<PortRefusal>
-    ensures { Err result ≡ peer_end stop }
+fn unserved(stop: Stop<DeviceRefusal>) -> Result<(), Stop<PortRefusal>>
+    ensures { result ≡ peer_end stop }
 {
     match stop {
-        Stop::Refused(refusal) => Stop::Refused(PortRefusal::Peer(refusal)),
-        Stop::Outside { object, count } => Stop::Outside { object, count },
-        Stop::NoMemory => Stop::NoMemory,
+        Stop::Refused(refusal) => Err(Stop::Refused(PortRefusal::Peer(refusal))),
+        Stop::Outside { object, count } => Err(Stop::Outside { object, count }),
+        Stop::NoMemory => Err(Stop::NoMemory),
     }
+}
+
+/// How writing a file ends the command.
+fn written(ended: Result<(), FilesFailure>) -> Result<(), Stop<PortRefusal>>
+    ensures { result ≡ written_end ended }
+{
+    match ended {
+        Ok(()) => Ok(()),
+        Err(FilesFailure::Failed { count }) => Err(Stop::Outside {
+            object: Object::Files,
+            count,
+        }),
+        Err(FilesFailure::NoMemory) => Err(Stop::NoMemory),
+    }
+}
+
+/// Writes what is to be written behind a conversation that ended well.
+fn finish<F: Files>(
+    served: Result<(), Stop<DeviceRefusal>>,
+    name: &Option<Name>,
+    device: &AnyDevice,
+    files: &mut F,
+) -> Result<(), Stop<PortRefusal>>
+    ensures { Finishes (result_of name.now device.now) (λ _. []) (seen F.count F.told files.old files.new)
+        (asking F.told F.asked files.old files.new) (F.sound files.old) served result }
+{
+    match served {
+        Ok(()) => written(write_result(files, name, device)),
+        Err(stop) => unserved(stop),
+    }
+}
+
+/// Serves a fresh end at a socket, and writes what is to be written behind.
+fn serve_made<F: Files, N: Network>(
+    alloc: Global,
+    made: PortEnd,
+    socket: &str,
+    port: u32,
+    files: &mut F,
+    net: &mut N,
+) -> Result<(), Stop<PortRefusal>>
+    requires { made.end ≡ fresh made.end.clear }
+    ensures { ServesMade made port socket.now (seen F.count F.told files.old files.new) (asking F.told F.asked files.old files.new) (F.sound files.old)
+        (record { told = N.Link.told; count = N.Link.count; is_sound = N.sound net.old }) (seen N.count N.told net.old net.new) result }
+{
+    let PortEnd { end, result: name } = made;
+    let mut end = end;
+    let served = serve_socket(alloc, &mut end, port, socket, net);
+    finish(served, &name, end.device(), files)
 }
 
 /// Serves the device of a configuration's port at a socket: the configuration is read and judged, then the file that the port's
@@ -117,15 +210,8 @@ pub fn serve_port<F: Files, N: Network>(
       links = record { told = N.Link.told; count = N.Link.count; is_sound = N.sound net.old };
     }) result }
 {
-    let made = match make_end(alloc, config, port, files) {
-        Ok(made) => made,
-        Err(fault) => return Err(unread(fault)),
-    };
-    let mut end = made.end;
-    match serve_socket(alloc, &mut end, port, socket, net) {
-        Ok(()) => {}
-        Err(stop) => return Err(unserved(stop)),
+    match read_port(alloc, config, port, files) {
+        Ok(made) => serve_made(alloc, made, socket, port, files, net),
+        Err(fault) => unread(fault),
     }
-    write_result(files, &made.result, end.device())?;
-    Ok(())
 }
