@@ -14,7 +14,8 @@ use Rattle.cosim_packets.specs.declared.refusals.ShowRefusal.TheVariants as show
 use Rattle.cosim_serve.specs.declared.refusal.DeviceRefusal.TheVariants as device
 use Rattle.cosim_cli.specs.Ended.{ended_status, show_refused, pack_refused, asm_refused, dis_refused, inputs_refused, device_refused}
 use Rattle.cosim_cli.specs.Promises.{Around, Keeps, Promises, none_refused}
-use Rattle.cosim_cli.specs.Words.{Command, Device, Show, Pack, Asm, Dis, Direct, Help, words_of, Uses}
+use Rattle.cosim_cli.specs.Usage.{Uses}
+use Rattle.cosim_words.specs.Words.{Command, DeviceNull, DeviceTimer, DevicePort, Show, Pack, Asm, Dis, Direct, Help, words_of}
 
 -- No refusal is told as Usage, and so no command ends by it.
 abbrev NeverUsage : {R : Type 0} → (R → Status) → Type 0

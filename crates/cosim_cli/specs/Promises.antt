@@ -22,7 +22,7 @@ use Rattle.cosim_device.specs.Starts.{null_start}
 use Rattle.cosim_serve.specs.Talks.{Ended}
 use Rattle.cosim_cli.specs.Ended.{ended_status, show_refused, pack_refused, asm_refused, dis_refused, inputs_refused, device_refused}
 use Rattle.cosim_cli.specs.Help.{Helps}
-use Rattle.cosim_cli.specs.Words.{Command, Device, Show, Pack, Asm, Dis, Direct, Help, words_of}
+use Rattle.cosim_words.specs.Words.{Command, DeviceNull, DeviceTimer, DevicePort, Show, Pack, Asm, Dis, Direct, Help, words_of}
 
 -- what is around a call: its objects before and after it, the names that the files were asked for, whether the objects
 -- are sound before it, the room of `out`, and what the links of the network tell and count
