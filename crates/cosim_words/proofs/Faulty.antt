@@ -1,8 +1,6 @@
 -- The forms are the commands.
-use Rattle.std.proofs.Common.{ℕ, ◌≡◌, ◌+◌, List, [], ◌∷◌, ◌++◌, length, take, codes, refl, ap, sym, ◌∙◌, subst, inl, inr}
-use Rattle.std.proofs.Math.Seq.{take-length}
-use Rattle.std.proofs.lemmas.List.{append-nil}
-use Rattle.cosim_words.specs.Words.{Command, DeviceNull, DeviceTimer, DevicePort, Show, Pack, Asm, Dis, Direct, Help, words_of, IsInRange, IsCommand, Begins, IsFaulty}
+use Rattle.std.proofs.Common.{ℕ, ◌≡◌, ◌+◌, List, [], ◌∷◌, ◌++◌, take, codes, refl, ap, sym, ◌∙◌, subst, inl, inr}
+use Rattle.cosim_words.specs.Words.{Command, DeviceNull, DeviceTimer, DevicePort, Show, Pack, Asm, Dis, Direct, Help, words_of, IsInRange, IsCommand, IsFaulty}
 use Rattle.cosim_words.specs.Forms.{Word, Exact, Other, Any, Number, IsWord, Fits, FitsSome, BeginsSome, FaultyIn, forms}
 
 -- words of a form that begins with a word of its own, by how many stand behind it
@@ -92,7 +90,3 @@ faulty-of ws i faulty = record {
 
 pub begins-forms : BeginsSome forms []
 begins-forms = (codes "help" ∷ [], command-fits Help tt)
-
--- a whole command begins itself
-pub stops-whole : (ws : List (List ℕ)) (c : Command) (n : ℕ) → n ≡ length ws → IsInRange c → ws ≡ words_of c → Begins (take n ws)
-stops-whole ws c n e range is = subst Begins (sym (ap (λ m. take m ws) e ∙ take-length ws)) ([], (c, range, append-nil ws ∙ is))
