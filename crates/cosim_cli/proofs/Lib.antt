@@ -1,5 +1,3 @@
-pub mod Faulty
 pub mod Helping
 pub mod Keeping
 pub mod Performing
-pub mod Reading

@@ -1,5 +1,4 @@
-pub mod Words
-pub mod Forms
+pub mod Usage
 pub mod Help
 pub mod Ended
 pub mod Promises

@@ -2,12 +2,9 @@
 #![tactic(auto)]
 
 mod help;
-mod laws;
 mod refusals;
 mod top;
-mod words;
 
-pub use laws::one_command;
 pub use top::{cosim, misspelled};
 
 #[cfg(test)]

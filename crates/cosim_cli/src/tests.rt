@@ -56,7 +56,7 @@ fn the_words_say_what_is_done(rt: HostRuntime) -> Result<(), Fail> {
     assert!(rt; ends(alloc, &["dis", "code"], 0, b"ecall\n", "")?);
     let ended = "cosim: peer p0: Ended 0\n";
     assert!(rt; ends(alloc, &["device", "s", "null"], 4, b"", ended)?);
-    let usage = "cosim: usage at word 2\n";
+    let usage = "cosim: usage at word 3\n";
     assert!(rt; ends(alloc, &["device", "s", "nil"], 1, b"", usage)?);
     Ok(())
 }

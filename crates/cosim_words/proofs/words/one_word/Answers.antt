@@ -1,7 +1,7 @@
 use Rattle.std.proofs.Common.{[], ◌∷◌, refl, inl}
-use Rattle.cosim_cli.specs.Forms.{Any}
-use Rattle.cosim_cli.proofs.Reading.{faulty-end}
-use Rattle.cosim_cli.proofs.words.one_word.Goals as goal
+use Rattle.cosim_words.specs.Forms.{Any}
+use Rattle.cosim_words.proofs.Reading.{faulty-end}
+use Rattle.cosim_words.proofs.words.one_word.Goals as goal
 
 pub returns-in-None-clause-err : goal.returns-in-None-clause-err
 returns-in-None-clause-err c = faulty-end ((Any ∷ []) ∷ []) _ c.in-None.ensures refl ([] ∷ [], inl (tt, tt))

@@ -1,14 +1,18 @@
 -- The commands as forms, word by word, by which words are read from the front. That they are the commands is proved.
-use Rattle.std.specs.Prelude.{ℕ, ◌≡◌, ◌+◌, ◌≤◌, ◌⊎◌, List, [], ◌∷◌, ◌++◌, length, take, codes}
+use Rattle.std.specs.Prelude.{ℕ, ◌≡◌, ◌+◌, ◌≤◌, ◌⊎◌, List, [], ◌∷◌, ◌++◌, length, take, map, codes, decimal}
 
--- a word of a form: this word, or any
+-- a word of a form: this word, any but this one, any, or a number up to this one
 pub data Word : Type 0 where
   Exact : List ℕ → Word
+  Other : List ℕ → Word
   Any : Word
+  Number : ℕ → Word
 
 abbrev pub IsWord : Word → List ℕ → Type 0
 IsWord (Exact text) word = word ≡ text
+IsWord (Other text) word = word ≡ text → ⊥
 IsWord Any word = Unit {0}
+IsWord (Number most) word = (n : ℕ) × (n ≤ most) × (word ≡ decimal n)
 
 -- the words fit the form
 abbrev pub Fits : List Word → List (List ℕ) → Type 0
@@ -32,9 +36,22 @@ pub record FaultyIn (forms : List (List Word)) (words : List (List ℕ)) (index 
   pub at : (BeginsSome forms (take (index + 1) words) → ⊥) ⊎ (index ≡ length words)
   pub within : index ≤ length words
 
+-- what may stand behind the socket of a device, and with the socket
+abbrev pub kinds : List (List Word)
+kinds =
+    (Exact (codes "null") ∷ [])
+    ∷ (Exact (codes "timer") ∷ Number 31 ∷ [])
+    ∷ (Other (codes "timer") ∷ Number 4294967295 ∷ [])
+    ∷ []
+
+abbrev pub devices : List (List Word)
+devices = map (λ kind. Any ∷ kind) kinds
+
 abbrev pub forms : List (List Word)
 forms =
     (Exact (codes "device") ∷ Any ∷ Exact (codes "null") ∷ [])
+    ∷ (Exact (codes "device") ∷ Any ∷ Exact (codes "timer") ∷ Number 31 ∷ [])
+    ∷ (Exact (codes "device") ∷ Any ∷ Other (codes "timer") ∷ Number 4294967295 ∷ [])
     ∷ (Exact (codes "show") ∷ Any ∷ [])
     ∷ (Exact (codes "pack") ∷ Any ∷ [])
     ∷ (Exact (codes "asm") ∷ Any ∷ Any ∷ [])

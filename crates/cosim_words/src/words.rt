@@ -1,23 +1,49 @@
 // Reading the words of a command.
-ghost use Rattle.std.specs.Prelude.{◌≡◌, ◌+◌, ◌≤◌, ◌⊎◌, ◌∷◌, length, take, [], OnOk, IfOk, IfErr, map, string_bytes, codes, IsTrue, MatchOption, false};
-ghost use Rattle.cosim_cli.specs.Words.{words_of, asked, IsFaulty, Begins};
-ghost use Rattle.cosim_cli.specs.Forms.{Exact, Any, FaultyIn};
+ghost use Rattle.std.specs.Prelude.{◌≡◌, ◌+◌, ◌≤◌, ◌⊎◌, ◌∷◌, length, take, [], OnOk, IfOk, IfErr, map, string_bytes, codes, decimal, IsTrue, MatchOption, false};
+ghost use Rattle.cosim_words.specs.Words.{words_of, asked, IsInRange, IsFaulty, Begins};
+ghost use Rattle.cosim_words.specs.Forms.{Any, Number, FaultyIn, kinds, devices};
+
+use cos_text::read_decimal;
 
 /// A command, with its words.
 #[derive(Clone, Copy, Debug, PartialEq, Eq)]
 pub enum Command<'a> {
     /// Serve a null device at a socket.
-    Device { socket: &'a str },
+    DeviceNull {
+        socket: &'a str,
+    },
+    /// Serve a timer at a socket; it has this interrupt line, at most 31.
+    DeviceTimer {
+        socket: &'a str,
+        line: u32,
+    },
+    /// Serve at a socket the device that a configuration has at a port. No configuration is named `timer`.
+    DevicePort {
+        socket: &'a str,
+        config: &'a str,
+        port: u32,
+    },
     /// Print the packets of a stream.
-    Show { file: &'a str },
+    Show {
+        file: &'a str,
+    },
     /// Print the bytes of a text of packets.
-    Pack { file: &'a str },
+    Pack {
+        file: &'a str,
+    },
     /// Write the image of an assembly.
-    Asm { file: &'a str, out: &'a str },
+    Asm {
+        file: &'a str,
+        out: &'a str,
+    },
     /// Print the words of an image.
-    Dis { file: &'a str },
+    Dis {
+        file: &'a str,
+    },
     /// Run the machine of a configuration without packets.
-    Direct { config: &'a str },
+    Direct {
+        config: &'a str,
+    },
     /// Print the help text.
     Help,
 }
@@ -87,44 +113,83 @@ fn two_words(words: &[String]) -> Result<(&str, &str), u64>
     }
 }
 
-/// The one word `null`.
-fn null_word(words: &[String]) -> Result<(), u64>
-    ensures ok { OnOk result (map string_bytes words.now ≡ codes "null" ∷ []) }
-    ensures err { IfErr result (λ i. FaultyIn ((Exact (codes "null") ∷ []) ∷ []) (map string_bytes words.now) i) }
+/// A number up to this.
+fn number_word(words: &[String], most: u32) -> Result<u32, u64>
+    ensures ok { IfOk result (λ n. (n ≤ most) × (map string_bytes words.now ≡ decimal n ∷ [])) }
+    ensures err { IfErr result (λ i. FaultyIn ((Number most ∷ []) ∷ []) (map string_bytes words.now) i) }
     ensures few { IfErr result (λ i. i ≤ 1) }
 {
     let (word, after) = match cut(words) {
         Some(parts) => parts,
         None => return Err(0),
     };
-    if !is_word(word, "null") {
-        return Err(0);
+    match read_decimal(word.as_bytes(), u64::from(most)) {
+        Some(number) => match no_word(after) {
+            Ok(()) => Ok(number as u32),
+            Err(index) => Err(index + 1),
+        },
+        None => Err(0),
     }
-    match no_word(after) {
-        Ok(()) => Ok(()),
+}
+
+/// Whether these are the word `null` and no more.
+fn is_null(kind: &str, after: &[String]) -> bool
+    ensures yes { IsTrue result → (kind.now ≡ codes "null") × (map string_bytes after.now ≡ []) }
+    ensures no { result ≡ false → (kind.now ≡ codes "null") × (map string_bytes after.now ≡ []) → ⊥ }
+{
+    after.is_empty() && is_word(kind, "null")
+}
+
+/// The device of the words behind its socket.
+fn device_kind<'a>(socket: &'a str, words: &'a [String]) -> Result<Command<'a>, u64>
+    ensures ok { IfOk result (λ c. IsInRange (asked c) ×
+        (codes "device" ∷ socket.now ∷ map string_bytes words.now ≡ words_of (asked c))) }
+    ensures err { IfErr result (λ i. FaultyIn kinds (map string_bytes words.now) i) }
+    ensures few { IfErr result (λ i. i ≤ 2) }
+{
+    let (kind, after) = match cut(words) {
+        Some(parts) => parts,
+        None => return Err(0),
+    };
+    if is_word(kind, "timer") {
+        return match number_word(after, 31) {
+            Ok(line) => Ok(Command::DeviceTimer { socket, line }),
+            Err(index) => Err(index + 1),
+        };
+    }
+    if is_null(kind, after) {
+        return Ok(Command::DeviceNull { socket });
+    }
+    match number_word(after, u32::MAX) {
+        Ok(port) => Ok(Command::DevicePort {
+            socket,
+            config: kind,
+            port,
+        }),
         Err(index) => Err(index + 1),
     }
 }
 
-/// A socket, and `null`.
-fn null_socket(words: &[String]) -> Result<&str, u64>
-    ensures ok { IfOk result (λ s. map string_bytes words.now ≡ s.now ∷ codes "null" ∷ []) }
-    ensures err { IfErr result (λ i. FaultyIn ((Any ∷ Exact (codes "null") ∷ []) ∷ []) (map string_bytes words.now) i) }
-    ensures few { IfErr result (λ i. i ≤ 2) }
+/// The device of the words behind `device`.
+fn device_words(words: &[String]) -> Result<Command<'_>, u64>
+    ensures ok { IfOk result (λ c. IsInRange (asked c) ×
+        (codes "device" ∷ map string_bytes words.now ≡ words_of (asked c))) }
+    ensures err { IfErr result (λ i. FaultyIn devices (map string_bytes words.now) i) }
+    ensures few { IfErr result (λ i. i ≤ 3) }
 {
     let (socket, after) = match cut(words) {
         Some(parts) => parts,
         None => return Err(0),
     };
-    match null_word(after) {
-        Ok(()) => Ok(socket),
+    match device_kind(socket, after) {
+        Ok(command) => Ok(command),
         Err(index) => Err(index + 1),
     }
 }
 
-/// The command of these words, or the index of the first faulty word.
+/// The command of these words, or the index of the first faulty word, which is their number where words are missing.
 pub fn command_of(words: &[String]) -> Result<Command<'_>, u64>
-    ensures ok { IfOk result (λ c. map string_bytes words.now ≡ words_of (asked c)) }
+    ensures ok { IfOk result (λ c. IsInRange (asked c) × (map string_bytes words.now ≡ words_of (asked c))) }
     ensures err { IfErr result (λ i. IsFaulty (map string_bytes words.now) i) }
 {
     let (verb, after) = match cut(words) {
@@ -132,8 +197,8 @@ pub fn command_of(words: &[String]) -> Result<Command<'_>, u64>
         None => return Err(0),
     };
     if is_word(verb, "device") {
-        return match null_socket(after) {
-            Ok(socket) => Ok(Command::Device { socket }),
+        return match device_words(after) {
+            Ok(command) => Ok(command),
             Err(index) => Err(index + 1),
         };
     }

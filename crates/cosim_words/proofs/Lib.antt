@@ -1,0 +1,3 @@
+pub mod Devices
+pub mod Faulty
+pub mod Reading
