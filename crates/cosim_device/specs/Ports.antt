@@ -45,7 +45,8 @@ found_to m config port (Some bytes) = judged_to m port (judged (Port port) bytes
 abbrev pub found : Store → List ℕ → ℕ → Found
 found m config port = found_to m config port (m config)
 
--- The names that are asked for: the configuration's, and behind it that of the file which the port's device begins with.
+-- The names that are asked for: the configuration's, and behind it that of the file which the port's device begins
+-- with.
 
 abbrev pub names_of : Store → ℕ → Option PortConfig → List (List ℕ)
 names_of m port (Some p) = names_read (port_files port p) m

@@ -1,5 +1,5 @@
--- How serving the device of a configuration's port ends: before its socket was connected to, or with the conversation of
--- its fresh end, behind which a disk's sectors are written where that ended well.
+-- How serving the device of a configuration's port ends: before its socket was connected to, or with the conversation
+-- of its fresh end, behind which a disk's sectors are written where that ended well.
 use Rattle.std.specs.Prelude.{ℕ, ◌≡◌, ◌⊎◌, List, [], ◌∷◌, ◌++◌, IfSome}
 use Rattle.std.specs.declared.option.Option.{Option}
 use Rattle.std.specs.declared.option.Option.TheVariants.{Some, None}
@@ -108,14 +108,16 @@ Finishes file reads f names is_sound (Ok u) r = IsWrittenBehind file reads f nam
 Finishes file reads f names is_sound (Err stop) r = IsLeft stop reads f names r
 
 -- The device was made of what the files hold, and its end served the first link that was to come.
-pub record IsServed {L : Type 0} (config : List ℕ) (port : ℕ) (socket : List ℕ) (a : PortView L) (r : PortEnded) : Type 0 where
+pub record IsServed {L : Type 0} (config : List ℕ) (port : ℕ) (socket : List ℕ) (a : PortView L) (r : PortEnded)
+    : Type 0 where
   pub settings : PortConfig
   pub device : AnyDevice
   pub is_found : IfSome a.files.old (λ m. (found m config port ≡ Ok settings) × (device ≡ device_of m settings))
   pub left : DeviceEnd AnyDevice Cause
   pub served : Ended
   pub serves : Serves any_model (port_start settings device) left port a.links socket a.net served
-  pub finishes : Finishes (result_of settings.result left.device) (port_names config port) a.files a.names a.is_sound served r
+  pub finishes :
+      Finishes (result_of settings.result left.device) (port_names config port) a.files a.names a.is_sound served r
 
 abbrev pub ServesPort : {L : Type 0} → List ℕ → ℕ → List ℕ → PortView L → PortEnded → Type 0
 ServesPort config port socket a r = IsUnmade config port a r ⊎ IsServed config port socket a r

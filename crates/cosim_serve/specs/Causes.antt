@@ -28,8 +28,8 @@ NetBlames port count net (Err (Outside object.Files n)) = ⊥
 NetBlames port count net (Err (Outside object.Out n)) = ⊥
 NetBlames port count net (Err (Outside object.Spawner n)) = ⊥
 
--- What is known of one link that was served, by its count before and after: it is blamed only where that rose, and what is
--- told is the count that it has then.
+-- What is known of one link that was served, by its count before and after: it is blamed only where that rose, and
+-- what is told is the count that it has then.
 abbrev pub LinkBlames : ℕ → ℕ → ℕ → Ended → Type 0
 LinkBlames port before now (Err (Outside (object.Link p) n)) = (p ≡ port) × Rose before n × (n ≡ now)
 LinkBlames port before now (Ok u) = Unit {0}

@@ -1,5 +1,5 @@
--- What becomes of a network at every exit: its names grew by a beginning of the command's list of names, which for a device
--- is its socket, and of its links to come it handed out one at most.
+-- What becomes of a network at every exit: its names grew by a beginning of the command's list of names, which for a
+-- device is its socket, and of its links to come it handed out one at most.
 use Rattle.std.specs.Prelude.{ℕ, ◌≡◌, ◌⊎◌, List, [], ◌∷◌, ◌++◌, IfSome, Option, Some, None, Result, Ok, Err}
 use Rattle.cos_base.specs.Networks.{Coming}
 use Rattle.outcomes.specs.declared.object.Object.TheVariants as object

@@ -56,8 +56,8 @@ DoneOrMemory (Err (Outside o n)) = ⊥
 DoneOrMemory (Err (Refused r)) = ⊥
 
 module _ {S : Type 0} (d : DeviceModel S) (start left : DeviceEnd S Cause) (port : ℕ) where
-  -- It ends as Talk does with a link that gives this for any bytes sent, and leaves that end: well where Talk ends well,
-  -- refused where it ends in that fault.
+  -- It ends as Talk does with a link that gives this for any bytes sent, and leaves that end: well where Talk ends
+  -- well, refused where it ends in that fault.
   abbrev pub ResultTalks : (List ℕ → List ℕ) → Ended → Type 0
   ResultTalks said (Ok u) = ByTalk d start said left (Ok tt)
   ResultTalks said (Err (Refused (Peer p f))) = (p ≡ port) × OfPeer f × ByTalk d start said left (Err f)
@@ -70,7 +70,8 @@ module _ {S : Type 0} (d : DeviceModel S) (start left : DeviceEnd S Cause) (port
   TalksFirst told (Some net) r = ForFirst net.coming (λ l. IfSome (told l) (λ w. ResultTalks w.said r))
 
 -- Talk ends well, over fewer bytes than a device end receives at most.
-pub record TalksCleanly {S : Type 0} (d : DeviceModel S) (start : DeviceEnd S Cause) (said : List ℕ → List ℕ) : Type 0 where
+pub record TalksCleanly {S : Type 0} (d : DeviceModel S) (start : DeviceEnd S Cause) (said : List ℕ → List ℕ)
+    : Type 0 where
   pub end : DeviceEnd S Cause
   pub talk : TalkEnds d start said end (Ok tt)
   pub few : length talk.received < 1099511627776

@@ -46,8 +46,8 @@ Hears d old new before after p (Err hear.NoMemory) = (new ≡ old) × (after ≡
 abbrev pub IsRead : Packet → Type 0
 IsRead p = (b : List ℕ) × Spells p b
 
--- What always holds of an end that keeps no fault: the device was brought to no later tick than that of the peer's latest
--- request; the own request is the device's want; and an open sync is the peer's.
+-- What always holds of an end that keeps no fault: the device was brought to no later tick than that of the peer's
+-- latest request; the own request is the device's want; and an open sync is the peer's.
 pub record IsCore {S : Type 0} (d : DeviceModel S) (e : DeviceEnd S Cause) : Type 0 where
   pub seen : d.seen e.device ≤ e.session.peer_time
   pub wanted : (w : Want) → e.own ≡ Some w → d.want e.device ≡ Some w

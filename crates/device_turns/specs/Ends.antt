@@ -1,5 +1,5 @@
--- What contracts see of a device end: its core, the fault that it keeps, and the bytes that it didn't take yet; and what
--- a call of its turn does.
+-- What contracts see of a device end: its core, the fault that it keeps, and the bytes that it didn't take yet; and
+-- what a call of its turn does.
 use Rattle.std.specs.Prelude.{IfErr, ◌≡◌, ℕ, ◌+◌, ◌≤◌, Bool, true, false, List, [], ◌++◌, length, drop, option_map, is_none, ◌&&◌, Option, Some, None, Result, Ok, Err}
 use Rattle.process_network.specs.PacketStar.{LeafEnd, fresh_leaf}
 use Rattle.cosim_model.specs.declared.session.EndFault.{EndFault}
@@ -50,8 +50,8 @@ abbrev pub answer_cause : {A : Type 0} → Result A Fault → Result A (EndFault
 answer_cause (Ok a) = Ok a
 answer_cause (Err f) = Err (cause_of f)
 
--- `clear` is the device end of the definitions without its fault, and `kept` that fault. `taken` is how many bytes it has
--- taken, up to 2^64 - 1.
+-- `clear` is the device end of the definitions without its fault, and `kept` that fault. `taken` is how many bytes it
+-- has taken, up to 2^64 - 1.
 pub record End (S : Type 0) : Type 0 where
   pub clear : DeviceEnd S Cause
   pub kept : Option Fault
@@ -84,9 +84,9 @@ abbrev pub Goes : {S : Type 0} → Option (Taking S × List ℕ) → End S → E
 Goes None old new before after = (new ≡ old) × (after ≡ before)
 Goes (Some r) old new before after = (core_of new ≡ r.0.core) × Holds old new r.0.taken × (after ≡ before ++ r.1)
 
--- What stood at the front of the held bytes, by what a turn of an end that kept no fault answered: a packet was taken; a
--- malformed one is told, which begins behind the bytes that were taken; or a packet is told that breaks a rule. There is
--- no other fault.
+-- What stood at the front of the held bytes, by what a turn of an end that kept no fault answered: a packet was taken;
+-- a malformed one is told, which begins behind the bytes that were taken; or a packet is told that breaks a rule.
+-- There is no other fault.
 abbrev pub IsAtFront : ℕ → List ℕ → Result DeviceTurn Fault → Type 0
 IsAtFront taken held (Ok turn.Took) = (p : Packet) × (size : ℕ) × (first held ≡ Some (Valid p, size))
 IsAtFront taken held (Ok turn.Greeted) = Unit {0}
@@ -159,8 +159,8 @@ IsPlaced received (Some (fault.Malformed f)) =
     (start : ℕ) × IsMalformedAt packet_codec received start f.cause × (f ≡ fault_at (counted start) f.cause)
 IsPlaced received kept = Unit {0}
 
--- An end that was fed these bytes in all, however they were cut, and whose turns sent these: it stands within the run of
--- a device end over them.
+-- An end that was fed these bytes in all, however they were cut, and whose turns sent these: it stands within the run
+-- of a device end over them.
 pub record HasRun {S : Type 0} (d : DeviceModel S) (start : DeviceEnd S Cause) (received sent : List ℕ) (e : End S)
     : Type 0 where
   pub turns : ℕ

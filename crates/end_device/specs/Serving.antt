@@ -1,5 +1,5 @@
--- What serving a device end over a link leaves: what was sent for what was received, how the count of faults moved, whom a
--- fault blames, and which fault is kept.
+-- What serving a device end over a link leaves: what was sent for what was received, how the count of faults moved,
+-- whom a fault blames, and which fault is kept.
 use Rattle.std.specs.Prelude.{◌≡◌, ℕ, ◌<◌, ◌≤◌, List, length, IfSome, Option, Some, None, Result, Ok, Err}
 use Rattle.byte_streams.specs.Prefixes.{IsPrefix}
 use Rattle.byte_streams.specs.Talks.{talk}

@@ -10,9 +10,9 @@ use Rattle.rp_packet.specs.declared.fault.Cause.{Cause}
 use Rattle.device_turns.specs.Runs.{Taking, IsWholeRun, out_device}
 use Rattle.device_turns.specs.Ends.{End, Fault, IsPlaced, is_clean}
 
--- The end took every turn that it could over the received bytes, and no more come: it ends so. An input ends well where the
--- end is clean and has taken all; within a packet it ends in Truncated, and else in Ended. A malformed packet is told with
--- its place.
+-- The end took every turn that it could over the received bytes, and no more come: it ends so. An input ends well
+-- where the end is clean and has taken all; within a packet it ends in Truncated, and else in Ended. A malformed
+-- packet is told with its place.
 abbrev pub EndsSo : {S : Type 0} → Taking S → List ℕ → Result Unit Fault → Type 0
 EndsSo l x (Ok u) = (l.core.fault ≡ None) × (drop l.taken x ≡ []) × (is_clean l.core ≡ true)
 EndsSo l x (Err (fault.Ended taken)) = (l.core.fault ≡ None) × (drop l.taken x ≡ []) × (is_clean l.core ≡ false)

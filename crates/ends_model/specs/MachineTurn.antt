@@ -322,8 +322,8 @@ module _ {M F : Type 0} (k : MasterModel M) where
   hold_request h p q m true = faulted (put_port h p q) p (end_fault.LateWant q.last (time_of m.body))
   hold_request h p q m false = put_port h p (record q { held = Some m })
 
-  -- What each event does, by phase: a hello in Meet, an access's answer in Answer, a sync's answer in Gather. Elsewhere it
-  -- is ignored.
+  -- What each event does, by phase: a hello in Meet, an access's answer in Answer, a sync's answer in Gather.
+  -- Elsewhere it is ignored.
 
   abbrev pub met : MachineEnd M F → Phase → MachineEnd M F
   met h (Meet p) = to_meet h (suc p) (nat_lt (suc p) (length h.ports))

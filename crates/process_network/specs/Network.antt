@@ -104,8 +104,8 @@ abbrev pub IsClosed : {S : Type 0} → Network S → (ℕ → Streams) → Type 
 IsClosed {S} net z =
     (i : ℕ) → (n : ℕ) × (s : S) × (o : Streams) × IsMaximalRun net i (λ j. z j i) n s o × Below o (z i)
 
--- Node h talks over links that are functions: `said j y` is all that link j gives for sent bytes y. `NodeTalk k x`: x is
--- what the links gave after k rounds, in each of which the node takes every turn that it can.
+-- Node h talks over links that are functions: `said j y` is all that link j gives for sent bytes y. `NodeTalk k x`: x
+-- is what the links gave after k rounds, in each of which the node takes every turn that it can.
 abbrev pub NodeTalk : {S : Type 0} → Network S → ℕ → (ℕ → List ℕ → List ℕ) → ℕ → Streams → Type 0
 NodeTalk net h said zero x = (j : ℕ) → x j ≡ said j []
 NodeTalk {S} net h said (suc k) x =
