@@ -52,9 +52,10 @@ def interrupt(number, at, line, level, flags=0):
     return packet(INTERRUPT, number, flags, struct.pack(">QQIB", at, 0, line, level))
 
 
-def access(command, number, flags, at, addr, size, data=b"", enables=b"", attributes=EXTENDED):
-    """A read or a write of so many bytes, or its answer. Enables have one byte for each data byte, or are repeated."""
-    body = struct.pack(">QQQIIIH", at, attributes, addr, size, 0, size, 0)
+def access(command, number, flags, at, addr, size, data=b"", enables=b"", attributes=EXTENDED, stream=None):
+    """A read or a write of so many bytes, or its answer. Enables have one byte for each data byte, or are repeated. A stream is as wide as
+    there are bytes, unless another width is named."""
+    body = struct.pack(">QQQIIIH", at, attributes, addr, size, 0, size if stream is None else stream, 0)
     if attributes & EXTENDED:
         body += struct.pack(">HIIIII", 0, 0, 80, 0, 80 + len(data) if enables else 0, len(enables))
     return packet(command, number, flags, body + data + enables)
@@ -90,7 +91,8 @@ class Unlawful(Exception):
 
 
 class Machine:
-    """One side of a link to a device. `asked` is what the device asked, in its order, and `received` are all bytes that it sent."""
+    """One side of a link to a device. `asked` is what the device asked, in its order, `received` are all bytes that it sent, and `sent` all
+    that were sent to it. A machine that doesn't serve leaves the device's requests without an answer."""
 
     def __init__(self, link, caps=(1, 2, 3), ram=bytes(4096), serves=True):
         self.link = link
@@ -102,6 +104,11 @@ class Machine:
         self.device_next = 0
         self.asked = []
         self.received = b""
+        self.sent = b""
+
+    def send(self, spelled):
+        self.sent += spelled
+        self.link.sendall(spelled)
 
     def number(self):
         """The number of the next request."""
@@ -135,7 +142,7 @@ class Machine:
 
     def greet(self):
         """Both sides send their hello; what both offer is in common."""
-        self.link.sendall(hello(self.caps, self.number()))
+        self.send(hello(self.caps, self.number()))
         theirs = self.take()
         if (theirs.command, theirs.number, theirs.flags) != (HELLO, 0, 0):
             raise Unlawful(f"{theirs} is no hello")
@@ -156,7 +163,7 @@ class Machine:
     def sync(self, at):
         """Brings the device to a time; everything that it asks until then is served."""
         number = self.number()
-        self.link.sendall(sync(number, at))
+        self.send(sync(number, at))
         came = self.awaited(SYNC, number)
         if came.body != struct.pack(">Q", at):
             raise Unlawful(f"{came} answers a sync at {at}")
@@ -164,7 +171,7 @@ class Machine:
     def read(self, at, addr, size=4):
         """A read of a register: the code of its answer, and the value."""
         number, layout = self.number(), self.layout()
-        self.link.sendall(access(READ, number, 0, at, addr, size, attributes=layout))
+        self.send(access(READ, number, 0, at, addr, size, attributes=layout))
         got = access_of(self.awaited(READ, number))
         code = got.attributes // 256
         if got != Access(at, coded(code, layout), addr, size, got.data, b"") or len(got.data) != size:
@@ -174,7 +181,7 @@ class Machine:
     def write(self, at, addr, value, size=4, enables=b""):
         """A write of a register: the code of its answer."""
         number, layout = self.number(), self.layout()
-        self.link.sendall(access(WRITE, number, 0, at, addr, size, value.to_bytes(size, "little"), enables, layout))
+        self.send(access(WRITE, number, 0, at, addr, size, value.to_bytes(size, "little"), enables, layout))
         got = access_of(self.awaited(WRITE, number))
         code = got.attributes // 256
         if got != Access(at, coded(code, layout), addr, size, b"", b""):
@@ -184,7 +191,7 @@ class Machine:
     def post(self, at, addr, value, size=4):
         """A write of a register that has no answer."""
         data = value.to_bytes(size, "little")
-        self.link.sendall(access(WRITE, self.number(), POSTED, at, addr, size, data, attributes=self.layout()))
+        self.send(access(WRITE, self.number(), POSTED, at, addr, size, data, attributes=self.layout()))
 
     def serve(self, came):
         """Does what the device asks, and answers it."""
@@ -202,7 +209,7 @@ class Machine:
 
     def answer(self, spelled):
         if self.serves:
-            self.link.sendall(spelled)
+            self.send(spelled)
 
     def serve_line(self, came):
         at, vector, line, level = struct.unpack(">QQIB", came.body)
@@ -303,7 +310,8 @@ def left_in(folder):
 
 def talk(row, words, part, status=0, line="", files=None):
     """Starts `device socket WORDS` in a folder with these files and hands the machine's side of the link to `part`, which says what the
-    machine does; then the link is closed, and the program's end is compared. It gives the files that are left in the folder."""
+    machine does; then the link is closed, and the program's end is compared, with the line that `part` gives where it gives one. It gives
+    the files that are left in the folder."""
     with tempfile.TemporaryDirectory() as folder, socket.socket(socket.AF_UNIX) as listener:
         written(folder, files or {})
         listener.bind(os.path.join(folder, "socket"))
@@ -315,7 +323,7 @@ def talk(row, words, part, status=0, line="", files=None):
                 failures.append(f"{row}: the program didn't connect")
             else:
                 with link:
-                    part(link)
+                    line = part(link) or line
         except (OSError, Closed, Unlawful) as error:
             failures.append(f"{row}: {type(error).__name__}: {error}")
         ended(row, process, status, line)
