@@ -7,12 +7,13 @@ that it left. The script ends with 1 on any mismatch. Machines that break a rule
 
 import os
 import socket
+import subprocess
 import sys
 import tempfile
 
 from support.machine import ANSWER, RAM, READ, SECONDS, WRITE
 from support.machine import Machine, accepted, access, coded, cut, ended, fed, hello, packet, started, sync, talk, written
-from support.program import built, check, told
+from support.program import PROGRAM, TOP, built, check, told
 
 MET = hello()
 PATTERN = bytes(place % 251 for place in range(1024))
@@ -402,6 +403,14 @@ def refused_words():
     ended("a device without a socket", started(["device"]), 1, "cosim: usage at word 1\n")
 
 
+def example():
+    """The machine of examples/timer and a timer, as the example's script starts them."""
+    environment = {**os.environ, "COSIM": PROGRAM}
+    done = subprocess.run([os.path.join(TOP, "examples", "run.sh"), "timer"], env=environment, capture_output=True, timeout=SECONDS, check=False)
+    with open(os.path.join(TOP, "examples", "timer", "timer.out"), "rb") as file:
+        check("examples/timer", "the end", (done.returncode, done.stdout, done.stderr), (0, file.read(), b""))
+
+
 def main():
     built()
     null_devices()
@@ -417,6 +426,7 @@ def main():
     early_ends()
     refused_ports()
     refused_words()
+    example()
     for words in ["null"], ["timer", "3"]:
         ended(f"no machine, {words}", started(["device", "/nowhere/socket", *words]), 5, "cosim: outside: net 1\n")
     return told("device_process")
