@@ -90,6 +90,17 @@ class Unlawful(Exception):
     """The device sent what it may not send."""
 
 
+def rest_of(link):
+    """Says that nothing more comes, and gives what the other side sends until it closes. Where a link is closed with bytes that weren't
+    read, the other side may see a failure in place of the end."""
+    got = b""
+    with contextlib.suppress(ConnectionResetError, BrokenPipeError):
+        link.shutdown(socket.SHUT_WR)
+        while piece := link.recv(4096):
+            got += piece
+    return got
+
+
 class Machine:
     """One side of a link to a device. `asked` is what the device asked, in its order, `received` are all bytes that it sent, and `sent` all
     that were sent to it. A machine that doesn't serve leaves the device's requests without an answer."""
@@ -135,10 +146,7 @@ class Machine:
 
     def rest(self):
         """Says that nothing more comes, and takes in what the device sends until it closes."""
-        self.link.shutdown(socket.SHUT_WR)
-        with contextlib.suppress(ConnectionResetError):
-            while piece := self.link.recv(4096):
-                self.received += piece
+        self.received += rest_of(self.link)
 
     def greet(self):
         """Both sides send their hello; what both offer is in common."""
@@ -310,8 +318,8 @@ def left_in(folder):
 
 def talk(row, words, part, status=0, line="", files=None):
     """Starts `device socket WORDS` in a folder with these files and hands the machine's side of the link to `part`, which says what the
-    machine does; then the link is closed, and the program's end is compared, with the line that `part` gives where it gives one. It gives
-    the files that are left in the folder."""
+    machine does; then the machine sends nothing more and reads to the end, and the program's end is compared, with the line that `part`
+    gives where it gives one. It gives the files that are left in the folder."""
     with tempfile.TemporaryDirectory() as folder, socket.socket(socket.AF_UNIX) as listener:
         written(folder, files or {})
         listener.bind(os.path.join(folder, "socket"))
@@ -324,6 +332,7 @@ def talk(row, words, part, status=0, line="", files=None):
             else:
                 with link:
                     line = part(link) or line
+                    rest_of(link)
         except (OSError, Closed, Unlawful) as error:
             failures.append(f"{row}: {type(error).__name__}: {error}")
         ended(row, process, status, line)
