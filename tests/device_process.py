@@ -11,6 +11,7 @@ import subprocess
 import sys
 import tempfile
 
+from support.configuration import config
 from support.machine import ANSWER, RAM, READ, SECONDS, WRITE
 from support.machine import Machine, accepted, access, coded, cut, ended, fed, hello, packet, started, sync, talk, written
 from support.program import PROGRAM, TOP, built, check, told
@@ -23,14 +24,6 @@ NOW, COMPARE, TIMER_CONTROL = 0, 4, 8
 DATA, UART_STATUS, UART_CONTROL = 0, 4, 8
 SOURCE, DESTINATION, LENGTH, MASK, DMA_CONTROL, DMA_STATUS = range(0, 24, 4)
 SECTOR, COUNT, ADDRESS, DISK_CONTROL, DISK_STATUS, SIZE = range(0, 24, 4)
-
-
-def config(*ports):
-    """A configuration whose machine's files aren't there, with these ports: the kind, and further keys."""
-    text = '[machine]\nkind = "rv32i"\nimage = "absent"\nram = 4096\nquantum = 10\nunits = 10\n'
-    for number, (kind, keys) in enumerate(ports):
-        text += f'[[port]]\nkind = "{kind}"\nbase = {0x10000000 + 4096 * number}\nsize = 4096\n{keys}\n'
-    return text
 
 
 def fixed(row, words, pieces, sent, files=None):
@@ -365,7 +358,7 @@ def refused_ports():
     timer_port, uart_port = ("timer", 'line = 1\nsocket = "s"'), ("uart", 'line = 2\ninput = "input"\nsocket = "s"')
     disk_port = ("disk", 'line = 3\ndisk = "disk"\nsocket = "s"')
     unconnected("a configuration that isn't there", ["c", "0"], 5, "cosim: outside: files 1\n")
-    unconnected("a configuration that isn't TOML", ["c", "0"], 2, "cosim: config: Text\n", {"c": "port"})
+    unconnected("a configuration that isn't TOML", ["c", "0"], 2, "cosim: config: Text\n", {"c": b"port"})
     unconnected("a configuration without ports", ["c", "0"], 2, "cosim: config: Missing 0 kind\n", {"c": config()})
     unconnected("a port behind the last one", ["c", "1"], 2, "cosim: config: Missing 1 kind\n", {"c": config(timer_port)})
     unconnected("the greatest port", ["c", "4294967295"], 2, "cosim: config: Missing 4294967295 kind\n", {"c": config(timer_port)})

@@ -9,6 +9,7 @@ The script ends with 1 on any mismatch.
 import struct
 import sys
 
+from support.configuration import config
 from support.machine import ANSWER, CFG, EXTENDED, HELLO, INTERRUPT, NOP, POSTED, READ, RAM, SYNC, WRITE
 from support.machine import Machine, access, coded, cut, fed, hello, interrupt, packet, sync, talk
 from support.program import built, check, told
@@ -137,16 +138,7 @@ TIMER = {
 }
 
 # A DMA at port 3 that is told to copy 64 bytes asks for them first.
-CONFIG = """[machine]
-kind = "script"
-script = "absent"
-ram = 4096
-quantum = 10
-units = 10
-""" + "".join(
-    f"[[port]]\nkind = \"{kind}\"\nbase = {0x10000000 + 4096 * port}\nsize = 4096\n{more}\n"
-    for port, (kind, more) in enumerate([("null", ""), ("timer", "line = 1"), ("null", ""), ("dma", 'line = 2\nsocket = "socket"')])
-)
+PORTS = {"c": config(("null", ""), ("timer", "line = 1"), ("null", ""), ("dma", 'line = 2\nsocket = "s"'))}
 SETTINGS = [(0, RAM), (4, RAM + 64), (8, 64), (16, 1)]
 COPY = MET + b"".join(access(WRITE, 1 + at, 0, at, addr, 4, value.to_bytes(4, "little")) for at, (addr, value) in enumerate(SETTINGS))
 COPY_SENT = b"".join(access(WRITE, 1 + at, ANSWER, at, addr, 4) for at, (addr, _) in enumerate(SETTINGS)) + access(READ, 1, 0, 3, RAM, 64)
@@ -197,7 +189,7 @@ def main():
     for row, (stream, sent, fault) in TIMER.items():
         try_row(row, ["timer", "3"], stream, sent, fault)
     for row, (stream, sent, fault) in DMA.items():
-        try_row(row, ["c", "3"], stream, sent, fault, 3, {"c": CONFIG})
+        try_row(row, ["c", "3"], stream, sent, fault, 3, PORTS)
     return told("hostile_machines")
 
 

@@ -14,6 +14,7 @@ import subprocess
 import sys
 import tempfile
 
+from support.configuration import config
 from support.machine import RAM, SECONDS, Closed, Machine, Unlawful, accepted, left_in, started, written
 from support.program import PROGRAM, built, check, failures, told
 
@@ -61,21 +62,8 @@ void *aligned_alloc(size_t align, size_t size) {
 }
 """
 
-CONFIG = """[machine]
-kind = "script"
-script = "absent"
-ram = 4096
-quantum = 10
-units = 10
-[[port]]
-kind = "%s"
-base = 0x10000000
-size = 4096
-line = 2
-socket = "socket"
-"""
-DMA = {"c": CONFIG % "dma"}
-DISK = {"c": CONFIG % "disk" + 'disk = "disk"\nresult = "out"\n', "disk": bytes(512), "out": b"what was there before"}
+DMA = {"c": config(("dma", 'line = 2\nsocket = "s"'))}
+DISK = {"c": config(("disk", 'line = 2\ndisk = "disk"\nresult = "out"\nsocket = "s"')), "disk": bytes(512), "out": b"what was there before"}
 
 
 def sets(machine, *settings):
@@ -163,11 +151,6 @@ def refuse_each(row, run, shim, before):
     return last
 
 
-def files_of(files):
-    """Files by their names, as they are left in a folder."""
-    return {name: content if isinstance(content, bytes) else content.encode() for name, content in files.items()}
-
-
 def main():
     built()
     compiler = shutil.which("cc") or shutil.which("gcc")
@@ -186,7 +169,7 @@ def main():
             ("a disk's device", served(["c", "0"], stores, DISK), DISK),
             ("help", listed, {}),
         ]:
-            print(f"refused_growths: {refuse_each(row, run, shim, files_of(files))} growths of {row} were refused in turn")
+            print(f"refused_growths: {refuse_each(row, run, shim, files)} growths of {row} were refused in turn")
     return told("refused_growths")
 
 

@@ -12,15 +12,7 @@ rustc -O --edition 2021 -o "$work/baseline" "$here/baseline.rs"
 (cd "$here/../../crates/bench_device" && rt run >"$work/build.log" 2>&1)
 cp "$here/../../crates/bench_device/out/bench_device" "$work/bench_device"
 
-# The least processor time, in seconds, of five runs.
-best() {
-    least=
-    for _ in 1 2 3 4 5; do
-        taken=$( { command time -f %U "$@" >"$work/out"; } 2>&1 | tail -n 1)
-        if [ -z "$least" ] || [ "$(echo "$taken < $least" | bc)" = 1 ]; then least=$taken; fi
-    done
-    echo "$least"
-}
+. "$here/../best.sh"
 
 for piece in 4096 100; do
     ours=$(best "$work/bench_device" "$runs" "$piece")

@@ -303,7 +303,7 @@ def written(folder, files):
     """Writes files into a folder, by their names."""
     for name, content in files.items():
         with open(os.path.join(folder, name), "wb") as file:
-            file.write(content if isinstance(content, bytes) else content.encode())
+            file.write(content)
 
 
 def left_in(folder):
