@@ -1,5 +1,6 @@
 #!/bin/sh
-# Assembles the firmware of an example, runs it and shows what it prints: `examples/run.sh hello`, `dma_copy` or `echo`.
+# Runs an example and shows what it prints: `examples/run.sh hello`, `dma_copy` or `echo` assembles a firmware and runs it on a machine;
+# `examples/run.sh timer` starts a machine in Python, and a timer as a process that it talks to.
 # It ends with 1 where that isn't what the example's file says (of the echo program the closing lines alone).
 #
 # The program is COSIM, where that is set; else the one that a build left in crates/cosim; else dist/cosim, exactly where its manifest
@@ -12,13 +13,13 @@ if [ "${1:-}" = --prove ]; then
     prove=yes
     shift
 fi
-name=${1:?"usage: run.sh [--prove] hello|dma_copy|echo"}
+name=${1:?"usage: run.sh [--prove] hello|dma_copy|echo|timer"}
 built=$top/crates/cosim/out/cosim
 if [ $prove = yes ]; then
     "$top/dist/build"
     program=$built
 elif [ -n "${COSIM:-}" ]; then
-    program=$COSIM
+    program=$(realpath "$COSIM")
 elif [ -x "$built" ]; then
     program=$built
 elif "$top/dist/fits"; then
@@ -33,8 +34,16 @@ work=$(mktemp -d)
 trap 'rm -rf "$work"' EXIT
 cp "$here/$name"/* "$work"
 cd "$work"
-"$program" asm "$name.s" "$name.bin"
-"$program" direct "$name.toml" >printed
+if [ "$name" = timer ]; then
+    python3 machine.py socket >printed &
+    machine=$!
+    while ! grep -q listening printed 2>/dev/null && kill -0 $machine 2>/dev/null; do sleep 0.02; done
+    "$program" device socket timer 3 || { kill $machine; exit 1; }
+    wait $machine
+else
+    "$program" asm "$name.s" "$name.bin"
+    "$program" direct "$name.toml" >printed
+fi
 cat printed
 if [ "$name" = echo ]; then grep -v '^@' printed >closing && mv closing printed; fi
 cmp printed "$name.out"

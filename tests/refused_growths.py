@@ -2,10 +2,11 @@
 """Refuses each growth of memory of the built program in turn, and says how many were refused.
 
 A small library, made here with the C compiler and loaded before the C library's own functions, counts the calls that ask for memory and
-refuses the one with a given number. Each run then has to end with 6 and its line, or with the status and all bytes of a run that was
-refused nothing. Where there is no C compiler, the script says so and tries nothing. It ends with 1 on any mismatch.
+refuses the one with a given number. Each run then has to end with 6 and its line, or with the status, all bytes and all files of a run
+that was refused nothing. Where there is no C compiler, the script says so and tries nothing. It ends with 1 on any mismatch.
 """
 
+import contextlib
 import os
 import shutil
 import socket
@@ -13,9 +14,10 @@ import subprocess
 import sys
 import tempfile
 
+from support.configuration import config
+from support.machine import RAM, SECONDS, Closed, Machine, Unlawful, accepted, left_in, started, written
 from support.program import PROGRAM, built, check, failures, told
 
-SECONDS = 20
 MOST = 400
 
 SHIM = r"""
@@ -60,57 +62,84 @@ void *aligned_alloc(size_t align, size_t size) {
 }
 """
 
-# a hello with the capabilities 1, 2 and 3, and a sync request with number 7 at tick 1000
-HELLO = bytes.fromhex("00000001 00000018 00000000 00000000 00000000 0004 0003 00000020 0003 0000 00000001 00000002 00000003")
-SYNC = bytes.fromhex("00000006 00000008 00000007 00000000 00000000 00000000000003e8")
+DMA = {"c": config(("dma", 'line = 2\nsocket = "s"'))}
+DISK = {"c": config(("disk", 'line = 2\ndisk = "disk"\nresult = "out"\nsocket = "s"')), "disk": bytes(512), "out": b"what was there before"}
 
 
-def served(environment):
-    """The device program over a peer that greets, synchronises and closes: its status, its line, and what it sent."""
-    with tempfile.TemporaryDirectory() as folder, socket.socket(socket.AF_UNIX) as listener:
-        path = os.path.join(folder, "socket")
-        listener.settimeout(SECONDS)
-        listener.bind(path)
-        listener.listen()
-        process = subprocess.Popen([PROGRAM, "device", path, "null"], env=environment, stdin=subprocess.DEVNULL,
-                                   stdout=subprocess.DEVNULL, stderr=subprocess.PIPE)
-        sent = b""
-        listener.settimeout(0.05)
-        link = None
-        while link is None and process.poll() is None:
-            try:
-                link, _ = listener.accept()
-            except TimeoutError:
-                pass
-        if link is not None:
-            with link:
-                link.settimeout(SECONDS)
+def sets(machine, *settings):
+    for tick, (addr, value) in enumerate(settings):
+        machine.write(tick, addr, value)
+
+
+def synchronises(machine):
+    machine.sync(1000)
+
+
+def sets_a_timer(machine):
+    """The level of a timer rises and falls."""
+    sets(machine, (4, 5), (8, 1))
+    machine.sync(10)
+    machine.write(11, 8, 0)
+    machine.sync(20)
+
+
+def copies(machine):
+    """A DMA copies two chunks and raises its level."""
+    sets(machine, (0, RAM), (4, RAM + 1024), (8, 100), (16, 3))
+    machine.sync(10)
+    machine.read(11, 20)
+
+
+def stores(machine):
+    """A disk takes a sector from the front of RAM."""
+    sets(machine, (0, 0), (4, 1), (8, RAM), (12, 3))
+    machine.sync(10)
+
+
+def served(words, talks, files=None):
+    """The device program with these words over a machine that greets, talks and closes: its status, its line, what it sent, and the files
+    that it left."""
+
+    def run(environment):
+        with tempfile.TemporaryDirectory() as folder, socket.socket(socket.AF_UNIX) as listener:
+            written(folder, files or {})
+            listener.bind(os.path.join(folder, "socket"))
+            listener.listen()
+            process = started(["device", "socket", *words], folder, environment)
+            sent = b""
+            link = accepted(listener, process)
+            if link is not None:
+                machine = Machine(link, ram=bytes(range(256)) * 16)
                 try:
-                    link.sendall(HELLO + SYNC)
-                    link.shutdown(socket.SHUT_WR)
-                    while piece := link.recv(4096):
-                        sent += piece
-                except OSError:
-                    pass
-        _, line = process.communicate(timeout=SECONDS)
-        return process.returncode, line, sent
+                    with link, contextlib.suppress(OSError, Closed):
+                        machine.greet()
+                        talks(machine)
+                        machine.rest()
+                except Unlawful as error:
+                    failures.append(f"{words}: {error}")
+                sent = machine.received
+            _, line = process.communicate(timeout=SECONDS)
+            return process.returncode, line, sent, left_in(folder)
+
+    return run
 
 
 def listed(environment):
-    """The same of the help text, which is printed and needs no peer."""
+    """The same of the help text, which is printed and needs no machine."""
     done = subprocess.run([PROGRAM, "help"], env=environment, capture_output=True, timeout=SECONDS, check=False)
-    return done.returncode, done.stderr, done.stdout
+    return done.returncode, done.stderr, done.stdout, {}
 
 
-def refuse_each(row, run, shim):
-    """How many growths were refused, until a run asks for no more."""
+def refuse_each(row, run, shim, before):
+    """How many growths were refused, until a run asks for no more. A run that is refused one leaves the files as before or as a whole run
+    does."""
     environment = {**os.environ, "LD_PRELOAD": shim}
     whole = run(environment)
-    check(row, "the status of a run that is refused nothing", whole[0], 0)
+    check(row, "status and line of a run that is refused nothing", whole[:2], (0, b""))
     last, same = 0, 0
     for number in range(1, MOST):
-        status, line, sent = run({**environment, "REFUSED_GROWTH": str(number)})
-        if (status, line, sent) == whole:
+        status, line, sent, files = ended = run({**environment, "REFUSED_GROWTH": str(number)})
+        if ended == whole:
             same += 1
             if same > 8:
                 break
@@ -118,6 +147,7 @@ def refuse_each(row, run, shim):
         last, same = number, 0
         check(row, f"status and line at growth {number}", (status, line), (6, b"cosim: no memory\n"))
         check(row, f"what was sent at growth {number}", whole[2].startswith(sent), True)
+        check(row, f"whether the files are whole at growth {number}", files in (before, whole[3]), True)
     return last
 
 
@@ -132,8 +162,14 @@ def main():
         with open(source, "w", encoding="utf-8") as file:
             file.write(SHIM)
         subprocess.run([compiler, "-shared", "-fPIC", "-o", shim, source, "-ldl"], check=True)
-        counts = [refuse_each("device", served, shim), refuse_each("help", listed, shim)]
-    print(f"refused_growths: {counts[0]} growths of device and {counts[1]} of help were refused in turn")
+        for row, run, files in [
+            ("device null", served(["null"], synchronises), {}),
+            ("device timer", served(["timer", "3"], sets_a_timer), {}),
+            ("a DMA's device", served(["c", "0"], copies, DMA), DMA),
+            ("a disk's device", served(["c", "0"], stores, DISK), DISK),
+            ("help", listed, {}),
+        ]:
+            print(f"refused_growths: {refuse_each(row, run, shim, files)} growths of {row} were refused in turn")
     return told("refused_growths")
 
 

@@ -11,15 +11,7 @@ rustc -O -o "$work/baseline" "$here/baseline.rs"
 (cd "$here/../../crates/bench_bus" && rt run >"$work/build.log" 2>&1)
 cp "$here/../../crates/bench_bus/out/bench_bus" "$work/bench_bus"
 
-# The least processor time, in seconds, of five runs.
-best() {
-    least=
-    for _ in 1 2 3 4 5; do
-        taken=$( { command time -f %U "$@" >"$work/out"; } 2>&1 | tail -n 1)
-        if [ -z "$least" ] || [ "$(echo "$taken < $least" | bc)" = 1 ]; then least=$taken; fi
-    done
-    echo "$least"
-}
+. "$here/../best.sh"
 
 for way in loop copy; do
     ours=$(best "$work/bench_bus" "$units" "$way")

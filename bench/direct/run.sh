@@ -42,15 +42,8 @@ CONFIG
 config loop "$units"
 config count "$counted"
 
-# The least processor time, in seconds, of three runs.
-best() {
-    least=
-    for _ in 1 2 3; do
-        taken=$( { command time -f %U "$@" >"$work/out"; } 2>&1 | tail -n 1)
-        if [ -z "$least" ] || [ "$(echo "$taken < $least" | bc)" = 1 ]; then least=$taken; fi
-    done
-    echo "$least"
-}
+times=3
+. "$here/../best.sh"
 
 # The program, its configuration, its units, and the words of the plain machine.
 beside() {

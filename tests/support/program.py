@@ -1,6 +1,7 @@
 """The built program, and the mismatches that a script of tests/ finds.
 
-The program is crates/cosim/out/cosim, where `rt ci` and `rt run` leave it; where it isn't there, `rt run` builds it.
+The program is COSIM, where that is set; else crates/cosim/out/cosim, where `rt ci` and `rt run` leave it; where it isn't there, `rt run`
+builds it.
 """
 
 import os
@@ -9,7 +10,7 @@ import sys
 
 TOP = os.path.dirname(os.path.dirname(os.path.dirname(os.path.abspath(__file__))))
 CRATE = os.path.join(TOP, "crates", "cosim")
-PROGRAM = os.path.join(CRATE, "out", "cosim")
+PROGRAM = os.path.abspath(os.environ.get("COSIM") or os.path.join(CRATE, "out", "cosim"))
 SECONDS = 60
 SHOWN = 50
 
