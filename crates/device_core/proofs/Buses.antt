@@ -1,17 +1,17 @@
 -- What is known of the reads and writes that were read from bytes.
 use Rattle.std.proofs.Common.{◌≡◌, inl, inr, ℕ, ◌+◌, ◌-◌, ◌<◌, ◌≤◌, Bool, true, false, List, length, take, drop, refl, sym, ap, ◌∙◌, subst, arith}
-use Rattle.std.specs.Prelude.{zero, suc, not, if◌then◌else◌, min, ◌&&◌, ◌||◌, nat_eq, nat_le, replicate}
+use Rattle.std.specs.Prelude.{zero, suc, not, if◌then◌else◌, ◌&&◌, ◌||◌, nat_eq, nat_le}
 use Rattle.std.proofs.lemmas.Bool.Decides.{nat_tests}
 use Rattle.std.proofs.lemmas.List.{length-take, length-drop}
 use Rattle.cosim_model.specs.declared.values.Access.{Access}
 use Rattle.cosim_model.specs.declared.values.Answer.{Answer}
-use Rattle.cosim_model.specs.Packets.{Packet, Body, BusFields, is_extended, is_response, carries, carried}
+use Rattle.cosim_model.specs.Packets.{Packet, Body, BusFields, is_extended, is_response, carried}
 use Rattle.cosim_model.specs.Packets.Body.{Read, Write}
 use Rattle.cosim_model.specs.Values.{plain, plain_of, plain_read, plain_code}
 use Rattle.ends_model.specs.DeviceTurn.{is_device_size, is_whole_width}
 use Rattle.end_packets.specs.Places.{IsNarrow}
 use Rattle.rp_busaccess.specs.Buses.{IsBus, IsPart, data_count}
-use Rattle.rp_packet.specs.Spelling.{Spells, IsBodyOf}
+use Rattle.rp_packet.specs.Spelling.{IsBodyOf}
 use Rattle.device_core.specs.Cores.{IsRead}
 
 front-size : (n m : ℕ) (body : List ℕ) → m + n ≤ length body → length (take n (drop m body)) ≡ n

@@ -1,6 +1,6 @@
 -- What always holds of an end stays as it acts and settles.
-use Rattle.std.proofs.Common.{◌≡◌, ℕ, ◌≤◌, Bool, true, false, List, [], ◌∷◌, refl, sym, ap, ◌∙◌, subst, arith}
-use Rattle.std.specs.Prelude.{Option, Some, None}
+use Rattle.std.proofs.Common.{◌≡◌, ℕ, ◌≤◌, Bool, true, false, refl, sym, ap, ◌∙◌, subst, arith}
+use Rattle.std.specs.Prelude.{Some, None}
 use Rattle.cosim_model.specs.declared.values.Access.{Access}
 use Rattle.cosim_model.specs.declared.values.Reply.{Reply}
 use Rattle.cosim_model.specs.declared.values.Want.{Want}
@@ -9,9 +9,9 @@ use Rattle.cosim_model.specs.declared.session.Ticket.{Ticket}
 use Rattle.cosim_model.specs.Packets.{Body, Packet}
 use Rattle.cosim_model.specs.Packets.Body.{Nop, Hello, Cfg, Read, Write, Interrupt, Sync}
 use Rattle.cosim_model.specs.Parts.{DeviceModel, IsDevice}
-use Rattle.cosim_model.specs.Sessions.{Session, take_packet, request_sent, unless_posted, awaiting, is_posted_body, hello_sent, other_answered, sync_answered}
+use Rattle.cosim_model.specs.Sessions.{Session, take_packet, unless_posted, awaiting, is_posted_body, hello_sent, other_answered}
 use Rattle.ends_model.specs.declared.ends.OpenSync.{OpenSync}
-use Rattle.ends_model.specs.DeviceTurn.{DeviceEnd, accessed, fed, asked, closed, own_sent, sent_body, body_len, want_body}
+use Rattle.ends_model.specs.DeviceTurn.{DeviceEnd, accessed, fed, asked, closed, sent_body, body_len, want_body}
 use Rattle.rp_packet.specs.declared.fault.Cause.{Cause}
 use Rattle.device_core.specs.Cores.{IsCore}
 use Rattle.device_core.proofs.Taking.{Keeps, take-keeps}

@@ -1,16 +1,14 @@
 -- Bytes and then zeros, 64 in all; zeros that a refused read is answered with; and the sizes of wants.
-use Rattle.std.proofs.Common.{◌≡◌, ◌⊎◌, inl, inr, ℕ, ◌+◌, ◌-◌, ◌<◌, ◌≤◌, Bool, true, false, if◌then◌else◌, List, [], ◌++◌, length, take, refl, sym, ap, ◌∙◌, arith}
+use Rattle.std.proofs.Common.{◌≡◌, inl, inr, ℕ, ◌-◌, ◌≤◌, Bool, true, false, if◌then◌else◌, List, [], ◌++◌, length, take, refl, sym, ap, ◌∙◌, arith}
 use Rattle.std.specs.Prelude.{min, nat_le, replicate}
 use Rattle.std.proofs.lemmas.Bool.Decides.{nat_tests, leb_tells}
 use Rattle.std.proofs.lemmas.List.{append-nil, length-replicate, length-take, take_all, take-append-le}
 use Rattle.cosim_model.specs.declared.values.Caps.{Caps}
 use Rattle.cosim_model.specs.declared.values.Want.{Want}
 use Rattle.cosim_model.specs.declared.values.Want.TheVariants.{Fetch, Store, Line}
-use Rattle.cosim_model.specs.declared.session.Ticket.{Ticket}
-use Rattle.cosim_model.specs.Packets.{Packet, BusFields}
+use Rattle.cosim_model.specs.Packets.{BusFields}
 use Rattle.cosim_model.specs.Packets.Body.{Read}
 use Rattle.cosim_model.specs.Parts.{IsWant}
-use Rattle.cosim_model.specs.Sessions.{answer_of}
 use Rattle.cosim_model.specs.Values.{padded}
 use Rattle.dev_line.specs.Chunks.{padded-is}
 use Rattle.ends_model.specs.DeviceTurn.{answer_fields, refused_read}

@@ -1,5 +1,5 @@
 -- Settling, one step after the other.
-use Rattle.std.proofs.Common.{◌≡◌, ℕ, zero, suc, ◌+◌, ◌*◌, ◌<◌, ◌≤◌, Bool, true, false, List, [], ◌∷◌, ◌++◌, refl, sym, ap, ◌∙◌, subst, arith, Result, Ok}
+use Rattle.std.proofs.Common.{◌≡◌, ℕ, zero, suc, ◌+◌, ◌*◌, ◌<◌, ◌≤◌, true, false, List, [], ◌∷◌, ◌++◌, refl, sym, ap, ◌∙◌, subst, arith, Result, Ok}
 use Rattle.std.proofs.lemmas.List.{append-nil, append_assoc}
 use Rattle.cosim_model.specs.declared.session.Event.{Event}
 use Rattle.cosim_model.specs.declared.session.SessionFault.{SessionFault}

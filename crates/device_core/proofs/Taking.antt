@@ -1,12 +1,11 @@
 -- What a session holds once it took a packet, and what it keeps.
-use Rattle.std.proofs.Common.{◌≡◌, ℕ, suc, ◌<◌, ◌≤◌, Bool, true, false, List, refl, sym, ap, ◌∙◌, subst, arith, Result, Ok, Err}
+use Rattle.std.proofs.Common.{◌≡◌, ℕ, ◌≤◌, Bool, true, false, refl, sym, ap, subst, arith, Result, Ok, Err}
 use Rattle.std.specs.Prelude.{nat_lt, IfOk, Option, Some, None}
 use Rattle.std.proofs.lemmas.Bool.Decides.{nat_tests}
 use Rattle.cosim_model.specs.declared.session.Event.{Event}
-use Rattle.cosim_model.specs.declared.session.Event.TheVariants.{Asked, Told}
 use Rattle.cosim_model.specs.declared.session.SessionFault.{SessionFault}
 use Rattle.cosim_model.specs.declared.session.Ticket.{Ticket}
-use Rattle.cosim_model.specs.Packets.{Body, Packet, BusFields, is_response, command_of}
+use Rattle.cosim_model.specs.Packets.{Body, Packet, is_response, command_of}
 use Rattle.cosim_model.specs.Packets.Body.{Nop, Hello, Cfg, Read, Write, Interrupt, Sync}
 use Rattle.cosim_model.specs.Values.{bit}
 use Rattle.cosim_model.specs.Sessions.{Session, or_else, fault_if, fault_of, flood, hello_missing, hello_again, wrong_version, hello_lacks, unsupported, stray_answer, wrong_answer, not_in_common, time_backwards, early_posted, second_request, is_posted, is_posted_body, is_taken, asked_at, event_of, ticket_of, counted, judged, take_kept, take_packet}

@@ -1,5 +1,5 @@
 -- A device end without the bytes that it receives: the device end of the definitions, which keeps no fault here.
-use Rattle.std.specs.Prelude.{◌≡◌, ℕ, ◌≤◌, Bool, true, false, List, [], ◌++◌, length, Option, Some, None, Result, Ok, Err}
+use Rattle.std.specs.Prelude.{◌≡◌, ℕ, ◌≤◌, Bool, true, false, List, [], ◌++◌, length, Some, None, Result, Ok, Err}
 use Rattle.process_network.specs.PacketStar.{written}
 use Rattle.cosim_model.specs.declared.values.Want.{Want}
 use Rattle.cosim_model.specs.declared.values.Want.TheVariants.{Fetch, Store, Line}

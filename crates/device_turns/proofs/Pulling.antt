@@ -8,7 +8,7 @@ use Rattle.cosim_model.specs.Parts.{DeviceModel}
 use Rattle.cosim_model.specs.Packets.{Decoded}
 use Rattle.ends_model.specs.declared.ends.DeviceTurn.TheVariants as device_turn
 use Rattle.ends_model.specs.Answers.{answer_once, unless_faulty}
-use Rattle.ends_model.specs.DeviceTurn.{DeviceEnd, device_takes}
+use Rattle.ends_model.specs.DeviceTurn.{DeviceEnd}
 use Rattle.rp_framing.specs.Framing.{Frames, FedAt, Feeds, is_ready}
 use Rattle.rp_framing.specs.Receiving as receiving
 use Rattle.rp_framing.specs.declared.receiver.Pulled.{Pulled}

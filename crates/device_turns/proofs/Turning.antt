@@ -13,7 +13,7 @@ use Rattle.cosim_model.specs.Sessions.{hello_of, hello_sent}
 use Rattle.ends_model.specs.declared.ends.DeviceTurn.{DeviceTurn}
 use Rattle.ends_model.specs.declared.ends.DeviceTurn.TheVariants as device_turn
 use Rattle.ends_model.specs.Answers.{answer_once, unless_faulty}
-use Rattle.ends_model.specs.DeviceTurn.{DeviceEnd, device_looks, device_takes, device_hears}
+use Rattle.ends_model.specs.DeviceTurn.{DeviceEnd, device_looks, device_takes}
 use Rattle.ends_model.specs.Traffic as traffic
 use Rattle.rp_packet.specs.declared.fault.Cause.{Cause}
 use Rattle.rp_packet.specs.declared.fault.PacketFault.{PacketFault}
@@ -24,7 +24,7 @@ use Rattle.rp_packet.specs.Streams.{packet_codec}
 use Rattle.rp_framing.specs.Framing.{counted}
 use Rattle.device_core.specs.Cores.{spelled}
 use Rattle.device_turns.specs.Runs.{Taking}
-use Rattle.device_turns.specs.Ends.{End, Fault, Goes, Holds, IsAtFront, IsTurn, answer_of, core_of, kept_cause, turn_of}
+use Rattle.device_turns.specs.Ends.{End, Fault, Goes, IsAtFront, IsTurn, answer_of, core_of, kept_cause, turn_of}
 
 -- an answer of a turn that is a fault
 abbrev err : Fault → Result DeviceTurn Fault

@@ -1,12 +1,12 @@
 -- An end that was fed pieces and took turns stands within a run over all that it was fed.
-use Rattle.std.proofs.Common.{◌≡◌, ◌⊎◌, inl, inr, ℕ, zero, suc, ◌+◌, ◌<◌, ◌≤◌, Bool, true, false, List, [], ◌∷◌, ◌++◌, length, drop, refl, sym, ap, ◌∙◌, subst, arith, Result, Ok, Err}
-use Rattle.std.specs.Prelude.{Option, Some, None, option_map, min}
-use Rattle.std.proofs.lemmas.List.{append-nil, append_assoc, drop-append-le, drop-drop}
-use Rattle.process_network.specs.PacketStar.{LeafEnd, written, leaf_turn_by, leaf_after_take, fresh_leaf}
+use Rattle.std.proofs.Common.{◌≡◌, ℕ, suc, ◌+◌, Bool, true, false, List, [], ◌∷◌, ◌++◌, length, drop, refl, sym, ap, ◌∙◌, subst, arith, Result, Ok, Err}
+use Rattle.std.specs.Prelude.{Option, Some, None, option_map}
+use Rattle.std.proofs.lemmas.List.{append-nil, drop-append-le, drop-drop}
+use Rattle.process_network.specs.PacketStar.{written, leaf_turn_by, leaf_after_take, fresh_leaf}
 use Rattle.cosim_model.specs.declared.session.EndFault.{EndFault}
 use Rattle.cosim_model.specs.declared.session.EndFault.TheVariants as fault
 use Rattle.cosim_model.specs.Parts.{DeviceModel}
-use Rattle.cosim_model.specs.Packets.{Packet, Decoded, spell}
+use Rattle.cosim_model.specs.Packets.{Decoded, spell}
 use Rattle.cosim_model.specs.Packets.Decoded.{Valid, Malformed}
 use Rattle.cosim_model.specs.Streams.{HasTaken}
 use Rattle.cosim_model.proofs.Streams.{one_more, still_first, still_malformed}
@@ -16,14 +16,14 @@ use Rattle.cosim_model.specs.Sessions.{hello_of, hello_sent}
 use Rattle.ends_model.specs.declared.ends.DeviceTurn.{DeviceTurn}
 use Rattle.ends_model.specs.declared.ends.DeviceTurn.TheVariants as device_turn
 use Rattle.ends_model.specs.Answers.{answer_once, hears_answer, unless_faulty}
-use Rattle.ends_model.specs.DeviceTurn.{DeviceEnd, device_looks, device_takes, device_hears}
+use Rattle.ends_model.specs.DeviceTurn.{DeviceEnd, device_looks, device_hears}
 use Rattle.ends_model.specs.Traffic as traffic
 use Rattle.rp_framing.specs.Framing.{counted}
 use Rattle.rp_packet.specs.declared.fault.Cause.{Cause}
 use Rattle.rp_packet.specs.Refusals.{first}
 use Rattle.rp_packet.specs.Streams.{packet_codec}
-use Rattle.device_turns.specs.Runs.{Taking, IsRun, IsWholeRun, out_device}
-use Rattle.device_turns.specs.Ends.{End, Fault, Goes, Holds, IsTurn, Turns, Feeds, FedAt, GoesOn, RunsOn, HasRun, IsPlaced, HasSentAll, SendsAll, OrMemory, answer_cause, answer_of, cause_of, core_of, fault_in, fresh, kept_cause, moves, turn_of}
+use Rattle.device_turns.specs.Runs.{Taking, IsRun, IsWholeRun}
+use Rattle.device_turns.specs.Ends.{End, Fault, Goes, IsTurn, Turns, Feeds, FedAt, GoesOn, RunsOn, HasRun, IsPlaced, HasSentAll, SendsAll, answer_of, core_of, fresh, kept_cause, moves, turn_of}
 use Rattle.device_turns.specs.StepLaws.{some-is}
 use Rattle.device_turns.specs.RunLaws.{run-on, run-within, run-longer, whole-sends}
 

@@ -1,7 +1,7 @@
 -- What contracts see of a device end: its core, the fault that it keeps, and the bytes that it didn't take yet; and
 -- what a call of its turn does.
 use Rattle.std.specs.Prelude.{IfErr, ◌≡◌, ℕ, ◌+◌, ◌≤◌, Bool, true, false, List, [], ◌++◌, length, drop, option_map, is_none, ◌&&◌, Option, Some, None, Result, Ok, Err}
-use Rattle.process_network.specs.PacketStar.{LeafEnd, fresh_leaf}
+use Rattle.process_network.specs.PacketStar.{fresh_leaf}
 use Rattle.cosim_model.specs.declared.session.EndFault.{EndFault}
 use Rattle.cosim_model.specs.declared.session.EndFault.TheVariants as fault
 use Rattle.cosim_model.specs.Packets.{Packet}

@@ -1,17 +1,17 @@
 -- Runs of a device end: more bytes behind don't change them, what was sent is a beginning of what is sent at last, and
 -- there is a whole run over any received bytes.
-use Rattle.std.proofs.Common.{◌≡◌, ◌⊎◌, inl, inr, ℕ, zero, suc, ◌+◌, ◌-◌, ◌<◌, ◌≤◌, Bool, true, false, List, [], ◌∷◌, ◌++◌, length, drop, refl, sym, ap, ◌∙◌, subst, arith}
+use Rattle.std.proofs.Common.{◌≡◌, ◌⊎◌, inl, inr, ℕ, zero, suc, ◌+◌, ◌-◌, ◌<◌, ◌≤◌, List, [], ◌++◌, length, refl, sym, ap, ◌∙◌, subst, arith}
 use Rattle.std.specs.Prelude.{Option, Some, None}
 use Rattle.std.proofs.lemmas.List.{append-nil, append_assoc}
 use Rattle.byte_streams.specs.Prefixes.{IsPrefix, Grows}
-use Rattle.process_network.specs.PacketStar.{LeafEnd, fresh_leaf}
+use Rattle.process_network.specs.PacketStar.{fresh_leaf}
 use Rattle.cosim_model.specs.Parts.{DeviceModel}
 use Rattle.ends_model.specs.DeviceTurn.{DeviceEnd}
 use Rattle.ends_model.specs.Traffic as traffic
 use Rattle.rp_packet.specs.declared.fault.Cause.{Cause}
 use Rattle.rp_packet.specs.Streams.{packet_codec}
 use Rattle.device_turns.specs.Runs.{Taking, IsRun, IsWholeRun, out_device}
-use Rattle.device_turns.specs.StepLaws.{went, come, IsStep, step-is, come-most, some-is}
+use Rattle.device_turns.specs.StepLaws.{come, step-is, come-most, some-is}
 
 no-turn : {A : Type 0} (a : A) → Some a ≡ None → ⊥
 no-turn a e = cc (e)

@@ -1,9 +1,9 @@
 -- One turn of a device end over received bytes: it keeps the hello, moves on, and isn't changed by more bytes behind.
-use Rattle.std.proofs.Common.{◌≡◌, ℕ, zero, suc, ◌+◌, ◌<◌, ◌≤◌, Bool, true, false, List, [], ◌∷◌, ◌++◌, length, drop, refl, sym, ap, ◌∙◌, subst, arith, Result, Ok, Err}
-use Rattle.std.specs.Prelude.{Option, Some, None, map, ◌&&◌, is_none, option_map}
+use Rattle.std.proofs.Common.{◌≡◌, ℕ, zero, suc, ◌+◌, ◌<◌, ◌≤◌, Bool, true, false, List, [], ◌++◌, length, drop, refl, sym, ap, ◌∙◌, arith, Result, Ok, Err}
+use Rattle.std.specs.Prelude.{Option, Some, None, ◌&&◌, is_none, option_map}
 use Rattle.std.proofs.lemmas.List.{drop-append-le, length-drop}
-use Rattle.process_network.specs.PacketStar.{LeafEnd, LeafOutlook, Ends, written, leaf_turn_by, leaf_after_take, fresh_leaf}
-use Rattle.process_network.specs.PacketStar.LeafOutlook.{LeafActs, LeafWaits, LeafHalts}
+use Rattle.process_network.specs.PacketStar.{leaf_turn_by, leaf_after_take}
+use Rattle.process_network.specs.PacketStar.LeafOutlook.{LeafWaits}
 use Rattle.cosim_model.specs.declared.session.EndFault.{EndFault}
 use Rattle.cosim_model.specs.declared.session.Event.{Event}
 use Rattle.cosim_model.specs.declared.session.Event.TheVariants.{Nothing, Met, Asked, Told, Answered, SyncDone}
@@ -16,7 +16,7 @@ use Rattle.cosim_model.specs.Packets.Body.{Nop, Hello, Cfg, Read, Write, Interru
 use Rattle.cosim_model.specs.Packets.Decoded.{Valid, Malformed}
 use Rattle.cosim_model.specs.Sessions.{Session, take_packet}
 use Rattle.ends_model.specs.declared.ends.OpenSync.{OpenSync}
-use Rattle.ends_model.specs.DeviceTurn.{DeviceEnd, Settling, Ends as Last, Goes_on, settle, settle_as, settle_one, settled, with_kind, next_of, joined, acts, answer_read, answer_write, do_posted, answered_own, is_device_size, device_looks, device_hears, device_judges, device_took, device_takes, then_settled, device_outlook, want_body}
+use Rattle.ends_model.specs.DeviceTurn.{DeviceEnd, Settling, Ends as Last, Goes_on, settle, settle_as, settle_one, with_kind, next_of, joined, acts, answer_read, answer_write, do_posted, answered_own, is_device_size, device_looks, device_hears, device_judges, device_outlook, want_body}
 use Rattle.ends_model.specs.Traffic as traffic
 use Rattle.rp_packet.specs.declared.fault.Cause.{Cause}
 use Rattle.rp_packet.specs.CodecLaws.{codec-laws}

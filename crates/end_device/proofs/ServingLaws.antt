@@ -1,17 +1,14 @@
 -- How far a link and its end have come, from call to call of serve.
-use Rattle.std.proofs.Common.{◌≡◌, ℕ, zero, suc, ◌+◌, ◌-◌, ◌<◌, ◌≤◌, Bool, true, false, List, [], ◌∷◌, ◌++◌, length, drop, refl, ap, sym, ◌∙◌, subst, arith, IfSome, length-append, Result, Ok, Err}
-use Rattle.std.specs.Prelude.{Option, Some, None, min}
+use Rattle.std.proofs.Common.{◌≡◌, ℕ, zero, suc, ◌+◌, ◌<◌, ◌≤◌, List, [], ◌∷◌, ◌++◌, length, drop, refl, ap, sym, ◌∙◌, subst, arith, IfSome, length-append, Result, Ok, Err}
+use Rattle.std.specs.Prelude.{Option, Some, None}
 use Rattle.std.proofs.lemmas.List.{append-nil}
 use Rattle.byte_streams.specs.Prefixes.{IsPrefix, Grows}
 use Rattle.byte_streams.specs.Talks.{talk}
 use Rattle.byte_streams.proofs.Prefixes.{IsPrefix-front, IsPrefix-trans, IsPrefix-behind}
 use Rattle.byte_streams.proofs.Talks.{within-talk}
 use Rattle.cos_base.specs.Links.{Wire, IsWire, IsFresh}
-use Rattle.cosim_model.specs.declared.session.EndFault.{EndFault}
 use Rattle.cosim_model.specs.declared.session.EndFault.TheVariants as fault
 use Rattle.cosim_model.specs.Parts.{DeviceModel}
-use Rattle.ends_model.specs.declared.ends.DeviceTurn.{DeviceTurn}
-use Rattle.ends_model.specs.declared.ends.DeviceTurn.TheVariants as turn
 use Rattle.ends_model.specs.DeviceTurn.{DeviceEnd}
 use Rattle.rp_framing.specs.Framing.{counted}
 use Rattle.rp_framing.specs.Receiving.{Came, CameAll, CamePartly}
@@ -19,12 +16,12 @@ use Rattle.rp_framing.specs.Sending.{Sends}
 use Rattle.rp_framing.specs.declared.sender.SendFault.{SendFault}
 use Rattle.rp_packet.specs.declared.fault.Cause.{Cause}
 use Rattle.device_turns.specs.Runs.{Taking, IsWholeRun, out_device}
-use Rattle.device_turns.specs.Ends.{End, Fault, GoesOn, FedAt, HasRun, IsPlaced, IsTurn, IsWaiting, Turns, core_of, fresh, is_clean, kept_cause}
+use Rattle.device_turns.specs.Ends.{End, Fault, GoesOn, FedAt, HasRun, IsPlaced, IsWaiting, Turns, core_of, is_clean, kept_cause}
 use Rattle.device_turns.specs.RunLaws.{out-grows, run-prefix, run-within, whole-sends}
-use Rattle.device_turns.specs.EndLaws.{call-runs, feeds-run, run-fresh, waits-clear, waits-whole, kept-whole}
+use Rattle.device_turns.specs.EndLaws.{call-runs, feeds-run, waits-clear, waits-whole, kept-whole}
 use Rattle.end_device.specs.Talk.{EndsSo, HasParts}
-use Rattle.end_device.specs.Serving.{IsServed, EndsThere, RefusesThere, Leaves, Serves, Tells}
-use Rattle.end_device.specs.Going.{IsGoing, Going, FaultLeaves, Settles, IsAtEnd, AtEnd, ReadsOn, FinishesSo}
+use Rattle.end_device.specs.Serving.{IsServed, EndsThere, RefusesThere, Serves, Tells}
+use Rattle.end_device.specs.Going.{IsGoing, Going, FaultLeaves, IsAtEnd, AtEnd, FinishesSo}
 
 parts-of : {S : Type 0} (e : End S) (l : Taking S) → core_of e ≡ l.core → HasParts e.clear l
 parts-of e l core = (ap (λ c. c.device) core, ap (λ c. c.calls) core)

@@ -1,5 +1,5 @@
 -- One turn of serve: which fault is kept, and that it moves on.
-use Rattle.std.proofs.Common.{◌≡◌, ℕ, suc, ◌+◌, ◌-◌, ◌<◌, ◌≤◌, Bool, true, false, List, [], length, drop, refl, sym, ap, ◌∙◌, subst, arith, Result, Ok, Err}
+use Rattle.std.proofs.Common.{◌≡◌, ℕ, ◌+◌, ◌<◌, Bool, true, false, List, length, refl, sym, ap, ◌∙◌, arith, Result, Ok, Err}
 use Rattle.std.specs.Prelude.{Option, Some, None}
 use Rattle.std.proofs.lemmas.List.{length-drop}
 use Rattle.process_network.specs.PacketStar.{fresh_leaf}
@@ -8,8 +8,8 @@ use Rattle.cosim_model.specs.Parts.{DeviceModel}
 use Rattle.ends_model.specs.declared.ends.DeviceTurn.{DeviceTurn}
 use Rattle.ends_model.specs.declared.ends.DeviceTurn.TheVariants as turn
 use Rattle.device_turns.specs.Runs.{Taking}
-use Rattle.device_turns.specs.Ends.{End, Fault, Goes, IsTurn, IsWaiting, Turns, answer_cause, answer_of, core_of, moves, turn_of}
-use Rattle.device_turns.specs.StepLaws.{went, come, step-is}
+use Rattle.device_turns.specs.Ends.{End, Fault, Goes, IsTurn, Turns, answer_of, core_of, turn_of}
+use Rattle.device_turns.specs.StepLaws.{went, step-is}
 use Rattle.device_turns.specs.EndLaws.{waits-rests, moves-turns}
 use Rattle.end_device.specs.Going.{Progress, kept_in_run, to_greet, turns_left}
 

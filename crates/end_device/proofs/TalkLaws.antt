@@ -1,8 +1,8 @@
 -- What a served link is left with is by Talk.
-use Rattle.std.proofs.Common.{◌≡◌, ℕ, suc, List, [], ◌++◌, refl, ap, sym, ◌∙◌, subst, IfSome, Result, Ok, Err}
+use Rattle.std.proofs.Common.{◌≡◌, ℕ, suc, List, ◌++◌, refl, ap, sym, ◌∙◌, subst, IfSome, Result, Ok, Err}
 use Rattle.std.specs.Prelude.{Option, Some, None}
 use Rattle.byte_streams.specs.Prefixes.{IsPrefix, Grows}
-use Rattle.byte_streams.specs.Talks.{talk, IsTalk}
+use Rattle.byte_streams.specs.Talks.{talk}
 use Rattle.byte_streams.proofs.Prefixes.{IsPrefix-trans}
 use Rattle.byte_streams.proofs.Talks.{talk-fixed, talk-stuck, talk-grows}
 use Rattle.cos_base.specs.Links.{Wire, IsWire}
@@ -15,11 +15,11 @@ use Rattle.process_network.specs.PacketStar.{leaf_turn_by}
 use Rattle.rp_packet.specs.declared.fault.Cause.{Cause}
 use Rattle.rp_packet.specs.Streams.{packet_codec}
 use Rattle.device_turns.specs.Runs.{Taking, IsWholeRun, out_device}
-use Rattle.device_turns.specs.Ends.{Fault, IsPlaced}
+use Rattle.device_turns.specs.Ends.{Fault}
 use Rattle.device_turns.specs.RunLaws.{out-grows, run-longer, whole-sends}
 use Rattle.device_turns.specs.EndLaws.{placed-longer}
 use Rattle.end_device.specs.Talk.{EndsSo, TalkEnds, ByTalk, IsByTalk}
-use Rattle.end_device.specs.Serving.{EndsThere, RefusesThere, StopsThere, Leaves, Serves, Tells}
+use Rattle.end_device.specs.Serving.{EndsThere, RefusesThere, Leaves, Serves, Tells}
 
 module _ {S : Type 0} (d : DeviceModel S) (start : DeviceEnd S Cause) where
   halted-by : (l : Taking S) (x : List ℕ) (k : Option (EndFault Cause)) (f : EndFault Cause) → k ≡ Some f

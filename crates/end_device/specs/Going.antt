@@ -1,5 +1,5 @@
 -- What holds between the calls that serve makes: how far a link and the end that is served over it have come together.
-use Rattle.std.specs.Prelude.{◌≡◌, ℕ, ◌+◌, ◌<◌, ◌≤◌, Bool, true, false, List, [], length, IfSome, Option, Some, None, Result, Ok, Err}
+use Rattle.std.specs.Prelude.{◌≡◌, ℕ, ◌+◌, ◌<◌, ◌≤◌, Bool, true, false, List, [], length, Option, Some, None, Result, Ok, Err}
 use Rattle.byte_streams.specs.Prefixes.{IsPrefix}
 use Rattle.byte_streams.specs.Talks.{talk}
 use Rattle.cos_base.specs.Links.{Wire}

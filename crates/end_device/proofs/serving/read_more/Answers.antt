@@ -1,4 +1,4 @@
-use Rattle.std.proofs.Common.{◌≡◌, ◌-◌, ◌∙◌, ap, arith, subst, length, length-append, Ok, Err}
+use Rattle.std.proofs.Common.{◌≡◌, ◌-◌, ap, arith, subst, length, length-append, Ok, Err}
 use Rattle.device_turns.specs.Ends.{Pulls}
 use Rattle.end_device.proofs.ServingLaws.{going-read, going-partly, part-link, part-memory}
 use Rattle.end_device.proofs.serving.read_more.Goals as goal

@@ -1,4 +1,3 @@
-use Rattle.std.proofs.Common.{ap, ◌∙◌}
 use Rattle.device_core.proofs.Padding.{want-sized}
 use Rattle.device_core.proofs.device.DeviceCore.ask.Goals as goal
 

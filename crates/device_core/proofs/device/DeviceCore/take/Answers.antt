@@ -1,6 +1,5 @@
-use Rattle.std.proofs.Common.{◌≡◌, refl, sym, ap, ◌∙◌, subst}
+use Rattle.std.proofs.Common.{sym, ap, ◌∙◌, subst}
 use Rattle.std.specs.Prelude.{None}
-use Rattle.cosim_model.specs.Sessions.{take_packet}
 use Rattle.rp_packet.specs.Values.{value_of}
 use Rattle.device_core.specs.Cores.{IsCore}
 use Rattle.device_core.proofs.Taking.{take-keeps, taken-if}

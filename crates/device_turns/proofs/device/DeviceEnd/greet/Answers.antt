@@ -1,6 +1,4 @@
-use Rattle.std.proofs.Common.{refl, ap, ◌∙◌, arith, Ok}
-use Rattle.ends_model.specs.declared.ends.DeviceTurn.TheVariants as device_turn
-use Rattle.device_turns.specs.Ends.{End}
+use Rattle.std.proofs.Common.{refl, ap, ◌∙◌, arith}
 use Rattle.device_turns.proofs.Turning.{greeted-turn, of-same}
 use Rattle.device_turns.proofs.device.DeviceEnd.greet.Goals as goal
 

@@ -1,4 +1,4 @@
-use Rattle.std.proofs.Common.{refl, ap, ◌∙◌, ◌++◌}
+use Rattle.std.proofs.Common.{ap, ◌∙◌, ◌++◌}
 use Rattle.cosim_model.specs.Packets.Decoded.{Valid}
 use Rattle.ends_model.specs.DeviceTurn.{device_takes}
 use Rattle.rp_packet.specs.Refusals.{first}

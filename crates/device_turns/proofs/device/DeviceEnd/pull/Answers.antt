@@ -1,4 +1,4 @@
-use Rattle.std.proofs.Common.{refl, sym, ap, subst}
+use Rattle.std.proofs.Common.{sym, ap, subst}
 use Rattle.device_turns.specs.Ends.{Pulls}
 use Rattle.device_turns.proofs.Pulling.{pulls-end, waits-unready}
 use Rattle.device_turns.proofs.device.DeviceEnd.pull.Goals as goal
