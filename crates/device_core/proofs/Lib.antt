@@ -1,5 +1,5 @@
 pub mod Taking
-mod Buses
+pub mod Buses
 pub mod Keeping
 mod Settling
 mod Padding

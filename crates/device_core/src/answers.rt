@@ -21,7 +21,7 @@ use rp_session::Session;
 const MOST_ZEROS: u32 = 4096;
 
 /// Puts the answer to a read: a code and these bytes.
-fn put_read_answer(
+pub fn put_read_answer(
     session: &mut Session,
     place: &mut BusPlace,
     ticket: Ticket,

@@ -28,7 +28,7 @@ fn with_zeros(bytes: &[u8]) -> [u8; 64]
 }
 
 /// 64 bytes: the first of these, and then zeros.
-fn padded(bytes: &[u8]) -> [u8; 64]
+pub fn padded(bytes: &[u8]) -> [u8; 64]
     ensures { result ≡ padded bytes.now }
 {
     with_zeros(front(bytes))

@@ -1,5 +1,5 @@
 // One side's session.
-ghost use Rattle.std.specs.Prelude.{◌≡◌, ℕ, false, true, Some, None, IfOk, OnOk, OnErr};
+ghost use Rattle.std.specs.Prelude.{◌≡◌, ℕ, false, true, Some, None, IfOk, OnOk, OnErr, is_some};
 
 use crate::looks::{is_response, tag_of, ticket_of};
 use crate::rows::{
@@ -154,6 +154,13 @@ impl Session {
         ensures { result ≡ self.now.hello_came }
     {
         self.hello_came
+    }
+
+    /// Whether an own sync was sent that isn't answered.
+    pub fn awaits_sync(&self) -> bool
+        ensures { result ≡ is_some self.now.own_sync }
+    {
+        self.own_sync.is_some()
     }
 
     /// What the session offers.
