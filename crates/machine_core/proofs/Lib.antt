@@ -1,1 +1,3 @@
 mod EnabledBytes
+mod Holding
+mod Scanning

@@ -37,6 +37,11 @@ Does Rests old new before after t = (t ≡ turn.Done) × (new ≡ old) × (after
 Does (Fails p fault) old new before after t = ⊥
 Does Lost old new before after t = ⊥
 
+-- the port whose packet is awaited, where one is
+abbrev pub awaited : {M : Type 0} → Act M Cause → Option ℕ
+awaited (Awaits p) = Some p
+awaited _ = None
+
 abbrev pub ActsBy : {M : Type 0} → Act M Cause → Core M → Core M → List ℕ → List ℕ → Result Turn NoMemory → Type 0
 ActsBy a old new before after (Ok t) = Does a old new before after t
 ActsBy a old new before after (Err e) = (new ≡ old) × (after ≡ before)

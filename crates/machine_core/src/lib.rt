@@ -7,8 +7,11 @@
 mod answers;
 mod fault;
 mod lanes;
+mod machine;
 mod port;
+mod ports;
 mod requests;
 mod services;
 
 pub use fault::HearFault;
+pub use machine::{MOST_SENT, MachineCore};
