@@ -5,6 +5,7 @@
 #![tactic(auto)]
 
 mod answers;
+mod boundaries;
 mod fault;
 mod lanes;
 mod machine;

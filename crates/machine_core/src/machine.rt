@@ -1,15 +1,11 @@
 // A machine end without received bytes.
-ghost use Rattle.std.specs.Prelude.{◌≡◌, ◌↔◌, ◌<◌, ◌≤◌, true, false, Some, None, IfOk, OnOk, OnErr, if◌then◌else◌, replicate};
-ghost use Rattle.cosim_model.specs.Sessions.{fresh_session};
-ghost use Rattle.cosim_model.specs.Values.{all_caps, no_caps};
-ghost use Rattle.cosim_model.specs.declared.session.Role.TheVariants.{Machine};
-ghost use Rattle.ends_model.specs.declared.ends.Phase.TheVariants as PhaseCase;
-ghost use Rattle.ends_model.specs.MachineTurn.{is_last_boundary, is_boundary_due};
+ghost use Rattle.std.specs.Prelude.{◌≡◌, ◌↔◌, ◌<◌, ◌≤◌, true, false, Some, None, IfOk, OnOk, OnErr};
 
 use crate::answers::heard_answer;
+use crate::boundaries::{is_due, phase_after};
 use crate::fault::HearFault;
 use crate::port::{MachinePort, time_of};
-use crate::ports::{are_clear, begin_waits, first_held, first_unknown};
+use crate::ports::{are_clear, begin_waits, first_held, first_unknown, fresh_ports};
 use cos_api::{Call, Calls, Master, plain};
 use cos_base::{NoMemory, Octets};
 use cosim_model::{Access, Answer, Event, Plan};
@@ -24,43 +20,6 @@ pub const MOST_SENT: usize = 4176;
 
 /// The most data bytes of an answer.
 const MOST_DATA: usize = 4096;
-
-/// Whether a boundary at this tick is the last one: the master has stopped, or all units are done.
-fn is_last<M: Master>(master: &M, plan: Plan, tick: u64) -> bool
-    ensures { result ≡ is_last_boundary M.model plan master.now tick }
-{
-    master.stopped().is_some() || tick == plan.units
-}
-
-/// The phase after a boundary at this tick.
-fn phase_after<M: Master>(master: &M, plan: Plan, tick: u64) -> Phase
-    ensures { result ≡ (if is_last_boundary M.model plan master.now tick then PhaseCase.Done else PhaseCase.Run) }
-{
-    if is_last(master, plan, tick) {
-        Phase::Done
-    } else {
-        Phase::Run
-    }
-}
-
-/// Whether a boundary is to be begun.
-fn is_due<M: Master>(master: &M, plan: Plan, tick: u64, marked: bool) -> bool
-    requires { 0 < plan.quantum }
-    ensures { result ≡ is_boundary_due M.model plan master.now tick marked }
-{
-    !marked && (is_last(master, plan, tick) || (tick > 0 && tick % plan.quantum == 0))
-}
-
-/// Ports on which nothing went or came.
-fn fresh_ports(alloc: Global, count: u32) -> Result<Vec<MachinePort>, NoMemory>
-    ensures { IfOk result (λ ports. ports.items ≡ replicate count (record { session = fresh_session Machine all_caps no_caps; held = None; last = 0 })) }
-{
-    let mut ports = Vec::new(alloc);
-    'ports: for _port in 0..count {
-        ports.push(MachinePort::make())?;
-    }
-    Ok(ports)
-}
 
 /// A master and its side of each port.
 #[derive(Drop)]

@@ -1,11 +1,26 @@
 // The ports of a machine end together.
-ghost use Rattle.std.specs.Prelude.{◌≡◌, map, option_map};
+ghost use Rattle.std.specs.Prelude.{◌≡◌, map, option_map, replicate, IfOk, None};
 ghost use Rattle.cosim_model.specs.Order.{least};
-ghost use Rattle.cosim_model.specs.Values.{all_on};
+ghost use Rattle.cosim_model.specs.Sessions.{fresh_session};
+ghost use Rattle.cosim_model.specs.Values.{all_on, all_caps, no_caps};
+ghost use Rattle.cosim_model.specs.declared.session.Role.TheVariants.{Machine};
 ghost use Rattle.ends_model.specs.MachineTurn.{first_true, held_time, is_clear, is_unknown, with_wait};
 ghost use Rattle.machine_core.specs.Firsts.{earlier_of};
 
 use crate::port::MachinePort;
+use cos_base::NoMemory;
+use std::alloc::Global;
+
+/// Ports on which nothing went or came.
+pub fn fresh_ports(alloc: Global, count: u32) -> Result<Vec<MachinePort>, NoMemory>
+    ensures { IfOk result (λ ports. ports.items ≡ replicate count (record { session = fresh_session Machine all_caps no_caps; held = None; last = 0 })) }
+{
+    let mut ports = Vec::new(alloc);
+    'ports: for _port in 0..count {
+        ports.push(MachinePort::make())?;
+    }
+    Ok(ports)
+}
 
 /// The least port that holds no request and has not answered its sync.
 pub fn first_unknown(ports: &[MachinePort]) -> Option<usize>

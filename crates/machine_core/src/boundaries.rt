@@ -1,0 +1,34 @@
+// When boundaries are.
+ghost use Rattle.std.specs.Prelude.{◌≡◌, ◌<◌, if◌then◌else◌};
+ghost use Rattle.ends_model.specs.MachineTurn.{is_last_boundary, is_boundary_due};
+ghost use Rattle.ends_model.specs.declared.ends.Phase.TheVariants.{Run, Done};
+
+use cos_api::Master;
+use cosim_model::Plan;
+use ends_model::Phase;
+
+/// Whether a boundary at this tick is the last one: the master has stopped, or all units are done.
+fn is_last<M: Master>(master: &M, plan: Plan, tick: u64) -> bool
+    ensures { result ≡ is_last_boundary M.model plan master.now tick }
+{
+    master.stopped().is_some() || tick == plan.units
+}
+
+/// The phase after a boundary at this tick.
+pub fn phase_after<M: Master>(master: &M, plan: Plan, tick: u64) -> Phase
+    ensures { result ≡ (if is_last_boundary M.model plan master.now tick then Done else Run) }
+{
+    if is_last(master, plan, tick) {
+        Phase::Done
+    } else {
+        Phase::Run
+    }
+}
+
+/// Whether a boundary is to be begun.
+pub fn is_due<M: Master>(master: &M, plan: Plan, tick: u64, marked: bool) -> bool
+    requires { 0 < plan.quantum }
+    ensures { result ≡ is_boundary_due M.model plan master.now tick marked }
+{
+    !marked && (is_last(master, plan, tick) || (tick > 0 && tick % plan.quantum == 0))
+}
