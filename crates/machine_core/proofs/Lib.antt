@@ -1,3 +1,5 @@
 mod EnabledBytes
 mod Holding
 mod Scanning
+mod Frames
+mod Greeting

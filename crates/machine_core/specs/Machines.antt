@@ -70,21 +70,24 @@ IsFree (AnswerFrom p a) i own = (o : OwnRequest) → own ≡ Some o → (i ≡ p
 IsFree _ i own = own ≡ None
 
 -- A sync is out where it was sent in this boundary and not answered. A port with a held request has not answered it.
-abbrev pub IsSynced : Phase → ℕ → PortEnd → Type 0
-IsSynced (SyncTo p) i q = is_some q.session.own_sync ≡ nat_lt i p
-IsSynced Gather i q = is_some q.held ≡ true → is_some q.session.own_sync ≡ true
-IsSynced _ i q = is_some q.session.own_sync ≡ false
+abbrev pub IsSynced : Phase → ℕ → Option Packet → Option OwnRequest → Type 0
+IsSynced (SyncTo p) i held own = is_some own ≡ nat_lt i p
+IsSynced Gather i held own = is_some held ≡ true → is_some own ≡ true
+IsSynced _ i held own = is_some own ≡ false
 
 pub record IsPortIn (phase : Phase) (i : ℕ) (q : PortEnd) : Type 0 where
   pub greeted : q.session.hello_went ≡ has_greeted phase i
   pub other : IsFree phase i q.session.own_other
-  pub sync : IsSynced phase i q
+  pub sync : IsSynced phase i q.held q.session.own_sync
+
+abbrev pub ArePortsIn : Phase → List PortEnd → Type 0
+ArePortsIn phase qs = (i : ℕ) (q : PortEnd) → slice_get qs i ≡ Some q → IsPortIn phase i q
 
 -- What a phase says of the whole end: the port that it names is there, the master has issued an access exactly while its
 -- answer is awaited, and a boundary ends as soon as every port has answered and nothing is held.
 abbrev pub IsIn : {M : Type 0} → MasterModel M → MachineEnd M Cause → Phase → Type 0
-IsIn k h (Greet p) = (p < length h.ports) × (k.issued h.master ≡ None)
-IsIn k h (Meet p) = (p < length h.ports) × (k.issued h.master ≡ None)
+IsIn k h (Greet p) = (p < length h.ports) × (k.issued h.master ≡ None) × (h.marked ≡ false)
+IsIn k h (Meet p) = (p < length h.ports) × (k.issued h.master ≡ None) × (h.marked ≡ false)
 IsIn k h Run = (k.issued h.master ≡ None) × (h.marked ≡ true → is_last k h ≡ false)
 IsIn k h (AnswerFrom p a) = (p < length h.ports) × (k.issued h.master ≡ Some (record { port = p; access = a }))
     × (h.tick < h.plan.units) × (a.size ≤ 8)
@@ -98,5 +101,5 @@ pub record IsMachine {M : Type 0} (k : MasterModel M) (h : MachineEnd M Cause) :
   pub ticks : h.tick ≤ h.plan.units
   pub reach : k.reach h.master ≤ length h.ports
   pub few : length h.ports ≤ 4294967295
-  pub ports : (i : ℕ) (q : PortEnd) → slice_get h.ports i ≡ Some q → IsPortIn h.phase i q
+  pub ports : ArePortsIn h.phase h.ports
   pub phase : IsIn k h h.phase

@@ -4,7 +4,7 @@ ghost use Rattle.std.specs.Prelude.{◌≡◌, ◌↔◌, ◌<◌, ◌≤◌, tr
 use crate::answers::heard_answer;
 use crate::boundaries::{is_due, phase_after};
 use crate::fault::HearFault;
-use crate::port::{MachinePort, time_of};
+use crate::port::MachinePort;
 use crate::ports::{are_clear, begin_waits, first_held, first_unknown, fresh_ports};
 use cos_api::{Call, Calls, Master, plain};
 use cos_base::{NoMemory, Octets};
@@ -72,7 +72,7 @@ impl<M: Master> MachineCore<M> {
     ghost use Rattle.std.specs.Prelude.{slice_get, is_some, map};
     ghost use Rattle.ends_model.specs.World.{machine_start};
     ghost use Rattle.ends_model.specs.declared.ends.Phase.TheVariants as Phase;
-    ghost use Rattle.ends_model.specs.MachineTurn.{PortEnd, machine_acts, at_port, greets, syncs, runs, works, accesses, finished, gathers, serves_held, first_true, is_unknown, is_due as is_boundary, is_last as is_end};
+    ghost use Rattle.ends_model.specs.MachineTurn.{PortEnd, machine_acts, at_port, greets, syncs, runs, works, accesses, finished, gathers, serves_held, met, first_true, is_unknown, is_due as is_boundary, is_last as is_end};
     ghost use Rattle.cosim_model.specs.Parts.{IsAccess};
     ghost use Rattle.device_core.specs.Cores.{IsRead};
     ghost use Rattle.rp_packet.specs.Values.{value_of};
@@ -338,6 +338,58 @@ impl<M: Master> MachineCore<M> {
             Ok(Turn::Sent { port: number })
         } else {
             Ok(Turn::Served { port: number })
+        }
+    }
+
+    /// Takes a packet of the awaited port that was read. It sends nothing.
+    pub fn hear(&mut self, port: u32, packet: Packet) -> Result<(), HearFault>
+        requires awaited { awaited (machine_acts M.model self.old.end) ≡ Some port }
+        requires read { IsRead (value_of packet) }
+        requires calls { 1 ≤ self.old.room }
+        ensures hears { Hears M.model self.old self.new port (value_of packet) result }
+        ensures clear { self.new.end.fault ≡ None }
+    {
+        let at = port as usize;
+        let event = match self.ports[at].take(&packet) {
+            Ok(event) => event,
+            Err(fault) => return Err(HearFault::Session(fault)),
+        };
+        match event {
+            Event::Nothing => Ok(()),
+            Event::Met => {
+                self.meet();
+                Ok(())
+            }
+            Event::Asked(_) => self.ports[at].hold(packet),
+            Event::Told => self.ports[at].hold(packet),
+            Event::Answered => {
+                if let Phase::AnswerFrom { access, .. } = self.phase {
+                    self.finish(port, access, heard_answer(access, &packet));
+                }
+                Ok(())
+            }
+            Event::SyncDone => {
+                if matches!(self.phase, Phase::Gather) && are_clear(self.ports.as_slice()) {
+                    self.phase = phase_after(&self.master, self.plan, self.tick);
+                    self.marked = true;
+                }
+                Ok(())
+            }
+        }
+    }
+
+    /// A hello came: that of the next port is awaited, or the units begin.
+    fn meet(&mut self)
+        ensures { self.new.end ≡ met M.model self.old.end self.old.end.phase }
+    {
+        if let Phase::Meet { port } = self.phase {
+            let next = port as usize + 1;
+            if next < self.ports.len() {
+                self.ports[next].begin_wait();
+                self.phase = Phase::Meet { port: port + 1 };
+            } else {
+                self.phase = Phase::Run;
+            }
         }
     }
 }

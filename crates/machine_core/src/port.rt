@@ -1,8 +1,9 @@
 // A port of the machine end.
-ghost use Rattle.std.specs.Prelude.{◌≡◌, ◌≤◌, ◌++◌, true, false, Some, None, IfOk, OnOk, OnErr, is_some};
+ghost use Rattle.std.specs.Prelude.{◌≡◌, ◌≤◌, ◌++◌, true, false, Some, None, IfOk, IfErr, OnOk, OnErr, is_some, nat_lt};
 ghost use Rattle.ends_model.specs.MachineTurn.{time_of as request_time};
 ghost use Rattle.rp_packet.specs.Values.{value_of};
 
+use crate::fault::HearFault;
 use crate::requests::put_access;
 use crate::services::serve_packet;
 use cos_api::{Calls, Master};
@@ -62,6 +63,7 @@ impl MachinePort {
     ghost use Rattle.ends_model.specs.MachineTurn.{access_body, greeted, held_time, is_clear, is_unknown, requested, with_wait};
     ghost use Rattle.device_core.specs.Cores.{IsRead};
     ghost use Rattle.rp_packet.specs.Spelling.{packet_bytes};
+    ghost use Rattle.machine_core.specs.declared.fault.HearFault.TheVariants as hear;
     ghost use Rattle.machine_core.specs.Ports.{IsHeld, IsTakenOr, Keeps};
     ghost use Rattle.machine_core.specs.Services.{Serves};
 
@@ -159,19 +161,18 @@ impl MachinePort {
         self.session.take(packet)
     }
 
-    /// The time of the latest request that was sent.
-    pub fn last(&self) -> u64
-        ensures { result ≡ self.now.last }
-    {
-        self.last
-    }
-
-    /// Holds a request that was taken, until it is served.
-    pub fn hold(&mut self, packet: Packet)
+    /// Holds a request that was taken, until it is served. One that arose after the latest request that was sent is refused.
+    pub fn hold(&mut self, packet: Packet) -> Result<(), HearFault>
         requires { IsHeld self.old.session (value_of packet) }
-        ensures { self.new ≡ record self.old { held = Some (value_of packet) } }
+        ensures ok { OnOk result ((nat_lt self.old.last (request_time (value_of packet).body) ≡ false) × (self.new ≡ record self.old { held = Some (value_of packet) })) }
+        ensures err { IfErr result (λ fault. (nat_lt self.old.last (request_time (value_of packet).body) ≡ true) × (fault ≡ hear.LateWant self.old.last (request_time (value_of packet).body)) × (self.new ≡ self.old)) }
     {
+        let got = time_of(&packet);
+        if self.last < got {
+            return Err(HearFault::LateWant { at: self.last, got });
+        }
         self.held = Some(packet);
+        Ok(())
     }
 
     /// Serves the request that it holds, and answers it where it isn't posted. Was it answered?
@@ -202,7 +203,7 @@ impl MachinePort {
 }
 
 /// The time of a request.
-pub fn time_of(packet: &Packet) -> u64
+fn time_of(packet: &Packet) -> u64
     ensures { result ≡ request_time (value_of packet.now).body }
 {
     match packet {
