@@ -33,6 +33,9 @@ set-there [] p y within = absurd (omega arith)
 set-there (z ∷ xs) zero y within = refl
 set-there (z ∷ xs) (suc p) y within = set-there xs p y (omega arith)
 
+pub put-there : {A : Type 0} (xs : List A) (p : ℕ) (y x : A) → slice_get (set xs p y) p ≡ Some x → x ≡ y
+put-there xs p y x e = elim (set-at xs p p y x e) as (λ _. x ≡ y) [ inl same ↦ same.1 | inr other ↦ absurd (other.0 refl) ]
+
 pub set-set : {A : Type 0} (xs : List A) (p : ℕ) (y z : A) → set (set xs p y) p z ≡ set xs p z
 set-set [] p y z = refl
 set-set (x ∷ xs) zero y z = refl
@@ -76,7 +79,7 @@ unclear (x ∷ qs) (suc p) q at clear = by (is_clear x) (unclear qs p q at clear
 pub does-seen : {M : Type 0} (act : MachineEnd M Cause → Act M Cause) (h : MachineEnd M Cause) (m : ℕ) (old new : Core M)
     (before after : List ℕ) (t : Turn) → record { end = h; room = m } ≡ old
     → Does (act h) (record { end = h; room = m }) new before after t → Does (act old.end) old new before after t
-does-seen act h m old new before after t view does =
+does-seen {M} act h m old new before after t view does =
     subst (λ (x : Core M). Does (act x.end) x new before after t) view does
 
 module _ {M : Type 0} (k : MasterModel M) where

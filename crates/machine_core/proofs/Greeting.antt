@@ -15,13 +15,13 @@ use Rattle.rp_packet.specs.Spelling.{packet_bytes}
 use Rattle.machine_core.specs.Machines.{Core, Does, IsMachine, IsPortIn, ArePortsIn}
 use Rattle.machine_core.proofs.Frames.{does-seen, put-ports, wait-ports, in-phase, ports-in, with-ports}
 
-lower-more : (i p : ℕ) → (i ≡ p → ⊥) → nat_lt i p ≡ nat_lt i (p + 1)
+pub lower-more : (i p : ℕ) → (i ≡ p → ⊥) → nat_lt i p ≡ nat_lt i (p + 1)
 lower-more i p other = grind (arith, nat_tests, other)
 
-lower-here : (p : ℕ) → true ≡ nat_lt p (p + 1)
+pub lower-here : (p : ℕ) → true ≡ nat_lt p (p + 1)
 lower-here p = grind (arith, nat_tests)
 
-lower-last : (i p n : ℕ) → (i ≡ p → ⊥) → i < n → n ≤ p + 1 → nat_lt i p ≡ true
+pub lower-last : (i p n : ℕ) → (i ≡ p → ⊥) → i < n → n ≤ p + 1 → nat_lt i p ≡ true
 lower-last i p n other within last = grind (arith, nat_tests, other)
 
 pub test-more : (p n : ℕ) → p + 1 < n → nat_lt (suc p) n ≡ true
@@ -30,7 +30,7 @@ test-more p n more = grind (arith, nat_tests)
 pub test-last : (p n : ℕ) → n ≤ p + 1 → nat_lt (suc p) n ≡ false
 test-last p n last = grind (arith, nat_tests)
 
-not-lower : (p : ℕ) → nat_lt p p ≡ false
+pub not-lower : (p : ℕ) → nat_lt p p ≡ false
 not-lower p = grind (arith, nat_tests)
 
 greeted-port : (next : Phase) (p : ℕ) (q r : PortEnd) → r ≡ greeted q → IsPortIn next p (greeted q) → IsPortIn next p r

@@ -3,3 +3,5 @@ mod Holding
 mod Scanning
 mod Frames
 mod Greeting
+mod Syncing
+mod Working

@@ -1,6 +1,9 @@
 -- Ports that are looked at, or changed, one by one.
 use Rattle.std.proofs.Common.{◌≡◌, ℕ, zero, suc, ◌+◌, ◌<◌, ◌≤◌, List, [], ◌∷◌, length, map, set, get_or, refl, sym, ap, ◌∙◌, arith, add-one}
 use Rattle.std.specs.Prelude.{Option, Some, None}
+use Rattle.std.proofs.lemmas.List.{with_items_is, length-map}
+use Rattle.std.specs.Global.{Vec}
+use Rattle.std.specs.Vec.{with_items}
 
 -- A place counted from another one on.
 
@@ -46,3 +49,10 @@ pub changed-end : {A : Type 0} (f : A → A) (n : ℕ) (xs now : List A) → now
 changed-end f n xs now is all few =
     let same : n ≡ length xs = omega arith in
     is ∙ ap (λ m. changed f m xs) same ∙ all-of f xs
+
+-- a `Vec` whose elements were all changed in place
+pub all-changed : {A : Type 0} (f : A → A) (v : Vec A) (ws ss : List A) → ws ≡ map f ss → ss ≡ v.items
+    → (with_items v ws).items ≡ map f v.items
+all-changed f v ws ss e is =
+    let long : length ws ≡ v.len = ap length e ∙ length-map ss f ∙ ap length is ∙ sym v.ok.0 in
+    with_items_is v ws long ∙ e ∙ ap (map f) is
