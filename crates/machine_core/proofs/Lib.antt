@@ -5,3 +5,5 @@ mod Frames
 mod Greeting
 mod Syncing
 mod Working
+mod Fresh
+mod Gathering

@@ -1,6 +1,7 @@
 -- The syncs of a boundary.
 use Rattle.std.proofs.Common.{◌≡◌, ℕ, zero, suc, ◌+◌, ◌<◌, ◌≤◌, Bool, true, false, List, [], ◌∷◌, ◌++◌, length, map, set, refl, sym, ap, ◌∙◌, subst, arith, add-one}
 use Rattle.std.specs.Prelude.{◌&&◌, nat_lt, Option, Some, None, is_some, is_none, slice_get}
+use Rattle.std.specs.Bool.{◌==◌}
 use Rattle.std.proofs.lemmas.Bool.Decides.{nat_tests}
 use Rattle.std.proofs.lemmas.List.{length-set, length-map}
 use Rattle.cosim_model.specs.declared.session.OwnRequest.{OwnRequest}
@@ -17,6 +18,10 @@ use Rattle.rp_packet.specs.Spelling.{packet_bytes}
 use Rattle.machine_core.specs.Machines.{Core, Does, IsMachine, IsPortIn, ArePortsIn}
 use Rattle.machine_core.proofs.Frames.{does-seen, put-ports, set-there, wait-port, unclear, in-phase, ports-in, with-ports}
 use Rattle.machine_core.proofs.Greeting.{lower-more, lower-here, lower-last, not-lower, test-more, test-last}
+
+pub not-none : (n : ℕ) → false ≡ (n == 0) → 0 < n
+not-none zero is = absurd (cc (is))
+not-none (suc n) is = omega arith
 
 pub none-of : {A : Type 0} (o : Option A) → is_some o ≡ false → o ≡ None
 none-of None is = refl
@@ -50,6 +55,9 @@ open-port q o is = ap (λ s. is_none q.held && is_none s) is ∙ never (is_none 
 sync-port : (next : Phase) (p : ℕ) (r x : PortEnd) → r ≡ x → IsPortIn next p x → IsPortIn next p r
 sync-port next p r x is one = subst (λ y. IsPortIn next p y) (sym is) one
 
+pub none-lower : (i : ℕ) → false ≡ nat_lt i 0
+none-lower i = grind (arith, nat_tests)
+
 -- A boundary that begins.
 pub begin-syncs : {M : Type 0} (k : MasterModel M) (h : MachineEnd M Cause) → h.phase ≡ Run → 0 < length h.ports
     → IsMachine k h → IsMachine k (record h { phase = SyncTo 0 })
@@ -62,9 +70,6 @@ begin-syncs k h phase some machine =
       other = (ports i q at).other;
       sync = (ports i q at).sync ∙ none-lower i;
     }) (some, was.0)
-  where
-    none-lower : (i : ℕ) → false ≡ nat_lt i 0
-    none-lower i = grind (arith, nat_tests)
 
 module _ {M : Type 0} (k : MasterModel M) (h : MachineEnd M Cause) (p : ℕ) (q : PortEnd) (phase : h.phase ≡ SyncTo p)
     (at : slice_get h.ports p ≡ Some q) (machine : IsMachine k h) where

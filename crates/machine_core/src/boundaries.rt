@@ -1,11 +1,21 @@
-// When boundaries are.
+// The phase at first, and when boundaries are.
 ghost use Rattle.std.specs.Prelude.{◌≡◌, ◌<◌, if◌then◌else◌};
-ghost use Rattle.ends_model.specs.MachineTurn.{is_last_boundary, is_boundary_due};
+ghost use Rattle.ends_model.specs.MachineTurn.{is_last_boundary, is_boundary_due, start_phase};
 ghost use Rattle.ends_model.specs.declared.ends.Phase.TheVariants.{Run, Done};
 
 use cos_api::Master;
 use cosim_model::Plan;
 use ends_model::Phase;
+
+/// The phase of an end that has done nothing.
+pub fn first_phase(ports: u32) -> Phase
+    ensures { result ≡ start_phase ports }
+{
+    match ports {
+        0 => Phase::Run,
+        _ => Phase::Greet { port: 0 },
+    }
+}
 
 /// Whether a boundary at this tick is the last one: the master has stopped, or all units are done.
 fn is_last<M: Master>(master: &M, plan: Plan, tick: u64) -> bool

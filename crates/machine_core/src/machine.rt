@@ -2,7 +2,7 @@
 ghost use Rattle.std.specs.Prelude.{◌≡◌, ◌↔◌, ◌<◌, ◌≤◌, true, false, Some, None, IfOk, OnOk, OnErr};
 
 use crate::answers::heard_answer;
-use crate::boundaries::{is_due, phase_after};
+use crate::boundaries::{first_phase, is_due, phase_after};
 use crate::fault::HearFault;
 use crate::port::MachinePort;
 use crate::ports::{are_clear, begin_waits, first_held, first_unknown, fresh_ports};
@@ -92,17 +92,13 @@ impl<M: Master> MachineCore<M> {
         ensures { IfOk result (λ c. c.end ≡ machine_start Cause master ports plan) }
     {
         let place = BusPlace::make(alloc, MOST_DATA)?;
-        let phase = match ports {
-            0 => Phase::Run,
-            _ => Phase::Greet { port: 0 },
-        };
-        let ports = fresh_ports(alloc, ports)?;
+        let list = fresh_ports(alloc, ports)?;
         Ok(MachineCore {
             alloc,
             plan,
-            phase,
+            phase: first_phase(ports),
             master,
-            ports,
+            ports: list,
             calls: Calls::make(alloc),
             tick: 0,
             marked: false,
