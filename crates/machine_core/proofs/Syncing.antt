@@ -45,7 +45,7 @@ wait-all : (now : Phase) (qs : List PortEnd) → ArePortsIn now qs → ArePortsI
 wait-all now qs ports i q at =
     let was = map-at with_wait qs i q at in wait-port now i was.0 q was.2 (ports i was.0 was.1)
 
-open-port : (q : PortEnd) (o : OwnRequest) → q.session.own_sync ≡ Some o → is_clear q ≡ false
+pub open-port : (q : PortEnd) (o : OwnRequest) → q.session.own_sync ≡ Some o → is_clear q ≡ false
 open-port q o is = ap (λ s. is_none q.held && is_none s) is ∙ never (is_none q.held)
   where
     never : (b : Bool) → b && false ≡ false

@@ -3,6 +3,7 @@ ghost use Rattle.std.specs.Prelude.{◌≡◌, ◌↔◌, ◌<◌, ◌≤◌, tr
 
 use crate::answers::heard_answer;
 use crate::boundaries::{first_phase, is_due, phase_after};
+use crate::services::service_turn;
 use crate::fault::HearFault;
 use crate::port::MachinePort;
 use crate::ports::{are_clear, begin_waits, first_held, first_unknown, fresh_ports};
@@ -308,33 +309,29 @@ impl<M: Master> MachineCore<M> {
             return Ok(Turn::NotYet { port: port as u32 });
         }
         match first_held(self.ports.as_slice()) {
-            Some(port) => self.serve(port, out),
+            Some(port) => self.serve(port as u32, out),
             None => unreachable!(),
         }
     }
 
     /// Serves the request that a port holds.
-    fn serve(&mut self, port: usize, out: &mut Octets) -> Result<Turn, NoMemory>
+    fn serve(&mut self, port: u32, out: &mut Octets) -> Result<Turn, NoMemory>
         requires phase { self.old.end.phase ≡ Phase.Gather }
         requires held { (q : PortEnd) × (slice_get self.old.end.ports port ≡ Some q) × (is_some q.held ≡ true) }
         requires calls { 1 ≤ self.old.room }
         requires room { 4176 ≤ out.old.spare }
         ensures { ActsBy (at_port (slice_get self.old.end.ports port) (λ q. serves_held M.model self.old.end port q q.held)) self.old self.new out.old.bytes out.new.bytes result }
     {
-        let number = port as u32;
-        let answered = self.ports[port].serve(
+        let at = port as usize;
+        let answered = self.ports[at].serve(
             &mut self.place,
             &mut self.master,
             &mut self.calls,
             self.tick,
-            number,
+            port,
             out,
         )?;
-        if answered {
-            Ok(Turn::Sent { port: number })
-        } else {
-            Ok(Turn::Served { port: number })
-        }
+        Ok(service_turn(port, answered))
     }
 
     /// Takes a packet of the awaited port that was read. It sends nothing.

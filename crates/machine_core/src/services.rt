@@ -1,5 +1,5 @@
 // A held request is served from the master's memory and its interrupt lines.
-ghost use Rattle.std.specs.Prelude.{◌≡◌, ◌+◌, ◌<◌, ◌≤◌, ◌++◌, true, false, not, Some, [], length, nat_le, ◌&&◌, IfOk, OnOk, OnErr};
+ghost use Rattle.std.specs.Prelude.{◌≡◌, ◌+◌, ◌<◌, ◌≤◌, ◌++◌, true, false, not, Some, [], length, nat_le, ◌&&◌, IfOk, OnOk, OnErr, if◌then◌else◌};
 ghost use Rattle.cosim_model.specs.Packets.{enabled};
 ghost use Rattle.cosim_model.specs.Packets.Body.{Read, Write, Interrupt as InterruptBody};
 ghost use Rattle.cosim_model.specs.Sessions.{answer_of, other_answered, is_posted};
@@ -8,6 +8,7 @@ ghost use Rattle.cosim_model.specs.declared.session.Command.TheVariants as comma
 ghost use Rattle.cosim_model.specs.declared.values.Call.TheVariants as call;
 ghost use Rattle.cosim_model.specs.declared.values.Want.TheVariants.{Fetch};
 ghost use Rattle.ends_model.specs.MachineTurn.{if_call, is_master_size, read_reply, serve_body, serve_read as read_service, serve_write as write_service};
+ghost use Rattle.ends_model.specs.declared.ends.Turn.TheVariants as turn;
 ghost use Rattle.end_packets.specs.Places.{IsNarrow};
 ghost use Rattle.rp_busaccess.specs.Bits.{fields_of};
 ghost use Rattle.rp_packet.specs.Spelling.{packet_bytes};
@@ -21,6 +22,7 @@ use cos_base::{NoMemory, Octets};
 use cosim_model::{Command, Reply, Ticket, Want};
 use device_core::{answer_by_code, bare_reply, padded, put_read_answer, refuse_read};
 use end_packets::{BusPlace, put_packet};
+use ends_model::Turn;
 use rp_control::Interrupt;
 use rp_packet::{BusAccess, Packet, Tag};
 use rp_session::Session;
@@ -260,5 +262,16 @@ pub fn serve_packet<M: Master>(
         Packet::Hello(..) => unreachable!(),
         Packet::Cfg(..) => unreachable!(),
         Packet::Sync(..) => unreachable!(),
+    }
+}
+
+/// What a turn answers in which a held request was served.
+pub fn service_turn(port: u32, answered: bool) -> Turn
+    ensures { result ≡ (if answered then turn.Sent port else turn.Served port) }
+{
+    if answered {
+        Turn::Sent { port }
+    } else {
+        Turn::Served { port }
     }
 }

@@ -1,5 +1,5 @@
+use Rattle.std.proofs.Common.{ap, ◌∙◌, sym, length, arith, ◌<◌}
 use Rattle.machine_core.proofs.machine.MachineCore.gather.Goals as goal
-use Rattle.machine_core.proofs.Gathering.{never-idle}
 
 pub overflow_cast-result : goal.overflow_cast-result
 overflow_cast-result g c = ?
