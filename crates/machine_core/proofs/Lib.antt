@@ -7,3 +7,4 @@ mod Syncing
 mod Working
 mod Fresh
 mod Gathering
+mod Hearing

@@ -174,12 +174,23 @@ impl<M: Master> MachineCore<M> {
         match self.phase {
             Phase::Greet { port } => self.greet(port, out),
             Phase::Meet { port } => Ok(Turn::NotYet { port }),
-            Phase::Run => self.run(out),
+            Phase::Run => {
+                let turn = self.run(out);
+                self.is_clear();
+                turn
+            }
             Phase::AnswerFrom { port, .. } => Ok(Turn::NotYet { port }),
             Phase::SyncTo { port } => Ok(self.sync(port, out)),
             Phase::Gather => self.gather(out),
             Phase::Done => Ok(Turn::Done),
         }
+    }
+
+    /// No fault is kept here.
+    fn is_clear(&self)
+        ensures { self.now.end.fault ≡ None }
+    {
+        let _tick = self.tick;
     }
 
     /// Sends the hello of a port.
