@@ -4,7 +4,11 @@ use Rattle.std.specs.Prelude.{is_some, slice_get, Result, Ok, Err}
 use Rattle.cos_base.specs.declared.no_memory.NoMemory.{NoMemory}
 use Rattle.cosim_model.specs.declared.session.EndFault.TheVariants as end_fault
 use Rattle.cosim_model.specs.declared.session.OwnRequest.{OwnRequest}
-use Rattle.cosim_model.specs.Packets.{Packet}
+use Rattle.cosim_model.specs.declared.session.Event.{Event}
+use Rattle.cosim_model.specs.declared.session.Event.TheVariants as event
+use Rattle.cosim_model.specs.declared.session.SessionFault.{SessionFault}
+use Rattle.cosim_model.specs.declared.values.Access.{Access}
+use Rattle.cosim_model.specs.Packets.{Packet, is_response}
 use Rattle.cosim_model.specs.Packets.Decoded.{Valid}
 use Rattle.cosim_model.specs.Parts.{MasterModel}
 use Rattle.cosim_model.specs.Values.{all_on}
@@ -13,9 +17,11 @@ use Rattle.ends_model.specs.declared.ends.Phase.TheVariants.{Greet, Meet, Run, A
 use Rattle.ends_model.specs.declared.ends.Turn.{Turn}
 use Rattle.ends_model.specs.declared.ends.Turn.TheVariants as turn
 use Rattle.ends_model.specs.MachineTurn.{PortEnd, MachineEnd, Act, machine_acts, machine_takes, is_clear, is_last}
+use Rattle.ends_model.specs.MachineTurn.{answered, hold_request, met, time_of}
 use Rattle.ends_model.specs.MachineTurn.Act.{Works, Sends, Awaits, Serves, Marks, Rests, Fails, Lost}
 use Rattle.rp_packet.specs.declared.fault.Cause.{Cause}
 use Rattle.rp_packet.specs.Spelling.{packet_bytes}
+use Rattle.machine_core.specs.Ports.{IsHeld, IsShort}
 use Rattle.machine_core.specs.declared.fault.HearFault.{HearFault}
 use Rattle.machine_core.specs.declared.fault.HearFault.TheVariants as hear
 
@@ -50,13 +56,50 @@ abbrev pub Acts :
     {M : Type 0} → MasterModel M → Core M → Core M → List ℕ → List ℕ → Result Turn NoMemory → Type 0
 Acts k old new before after r = ActsBy (machine_acts k old.end) old new before after r
 
--- A packet of a port is taken: what becomes of the end, as the definitions say. A fault is answered and not kept.
+-- An end that took a packet of port p has become this one. A fault is answered and not kept.
+abbrev pub Becomes : {M : Type 0} → MachineEnd M Cause → MachineEnd M Cause → ℕ → Result Unit HearFault → Type 0
+Becomes want new p (Ok u) = new ≡ want
+Becomes want new p (Err (hear.Session f)) = record new { fault = Some (p, end_fault.Session f) } ≡ want
+Becomes want new p (Err (hear.LateWant at got)) = record new { fault = Some (p, end_fault.LateWant at got) } ≡ want
+
 abbrev pub Hears : {M : Type 0} → MasterModel M → Core M → Core M → ℕ → Packet → Result Unit HearFault → Type 0
-Hears k old new p m (Ok u) = new.end ≡ machine_takes k old.end p (Valid m)
-Hears k old new p m (Err (hear.Session f)) =
-    record new.end { fault = Some (p, end_fault.Session f) } ≡ machine_takes k old.end p (Valid m)
-Hears k old new p m (Err (hear.LateWant at got)) =
-    record new.end { fault = Some (p, end_fault.LateWant at got) } ≡ machine_takes k old.end p (Valid m)
+Hears k old new p m r = Becomes (machine_takes k old.end p (Valid m)) new.end p r
+
+-- Steps of taking a packet: the session of its port took it, and a boundary that is over has ended. What is left to do
+-- is by the event.
+
+abbrev pub is_late : PortEnd → Packet → Bool
+is_late q m = nat_lt q.last (time_of m.body)
+
+-- a request that may be held
+pub record MayHold {M : Type 0} (h : MachineEnd M Cause) (p : ℕ) (m : Packet) (q : PortEnd) : Type 0 where
+  pub there : slice_get h.ports p ≡ Some q
+  pub held : IsHeld q.session m
+  pub synced : h.phase ≡ Gather → is_some q.session.own_sync ≡ true
+
+-- an answer that may be given to the master
+pub record MayAnswer {M : Type 0} (h : MachineEnd M Cause) (p : ℕ) (m : Packet) : Type 0 where
+  pub answers : is_response m ≡ true
+  pub free : (q : PortEnd) → slice_get h.ports p ≡ Some q → q.session.own_other ≡ None
+  pub awaited : (n : ℕ) (a : Access) → h.phase ≡ AnswerFrom n a → (n ≡ p) × IsShort m.body
+
+abbrev pub Took :
+    {M : Type 0} → MasterModel M → MachineEnd M Cause → MachineEnd M Cause → ℕ → Packet → Result Event SessionFault
+    → Type 0
+Took k want new p m (Err f) = record new { fault = Some (p, end_fault.Session f) } ≡ want
+Took k want new p m (Ok event.Nothing) = new ≡ want
+Took k want new p m (Ok event.SyncDone) = new ≡ want
+Took k want new p m (Ok event.Met) = met k new new.phase ≡ want
+Took k want new p m (Ok event.Answered) = (answered k new m.body new.phase ≡ want) × MayAnswer new p m
+Took k want new p m (Ok event.Told) =
+    (q : PortEnd) × MayHold new p m q × (hold_request k new p q m (is_late q m) ≡ want)
+Took k want new p m (Ok (event.Asked t)) =
+    (q : PortEnd) × MayHold new p m q × (hold_request k new p q m (is_late q m) ≡ want)
+
+-- the answer of a sync
+abbrev pub ends_sync : Result Event SessionFault → Bool
+ends_sync (Ok event.SyncDone) = true
+ends_sync _ = false
 
 -- What always holds of a port in a phase, by its place.
 

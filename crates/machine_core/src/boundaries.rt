@@ -1,10 +1,11 @@
 // The phase at first, and when boundaries are.
-ghost use Rattle.std.specs.Prelude.{◌≡◌, ◌<◌, if◌then◌else◌};
+ghost use Rattle.std.specs.Prelude.{◌≡◌, ◌<◌, true, false, if◌then◌else◌};
 ghost use Rattle.ends_model.specs.MachineTurn.{is_last_boundary, is_boundary_due, start_phase};
-ghost use Rattle.ends_model.specs.declared.ends.Phase.TheVariants.{Run, Done};
+ghost use Rattle.ends_model.specs.declared.ends.Phase.TheVariants.{Run, Gather, Done};
+ghost use Rattle.machine_core.specs.Machines.{ends_sync as sync_ends};
 
 use cos_api::Master;
-use cosim_model::Plan;
+use cosim_model::{Event, Plan, SessionFault};
 use ends_model::Phase;
 
 /// The phase of an end that has done nothing.
@@ -41,4 +42,35 @@ pub fn is_due<M: Master>(master: &M, plan: Plan, tick: u64, marked: bool) -> boo
     ensures { result ≡ is_boundary_due M.model plan master.now tick marked }
 {
     !marked && (is_last(master, plan, tick) || (tick > 0 && tick % plan.quantum == 0))
+}
+
+/// Whether this is the phase in which a boundary's requests and answers are taken.
+pub fn is_gather(phase: Phase) -> bool
+    ensures yes { result ≡ true → phase ≡ Gather }
+    ensures no { result ≡ false → phase ≡ Gather → ⊥ }
+{
+    match phase {
+        Phase::Gather => true,
+        Phase::Greet { .. } => false,
+        Phase::Meet { .. } => false,
+        Phase::Run => false,
+        Phase::AnswerFrom { .. } => false,
+        Phase::SyncTo { .. } => false,
+        Phase::Done => false,
+    }
+}
+
+/// Whether this is what became of the answer of a sync.
+pub fn ends_sync(taken: &Result<Event, SessionFault>) -> bool
+    ensures { result ≡ sync_ends taken.now }
+{
+    match taken {
+        Ok(Event::SyncDone) => true,
+        Ok(Event::Nothing) => false,
+        Ok(Event::Met) => false,
+        Ok(Event::Asked(_)) => false,
+        Ok(Event::Told) => false,
+        Ok(Event::Answered) => false,
+        Err(_) => false,
+    }
 }

@@ -2,14 +2,14 @@
 ghost use Rattle.std.specs.Prelude.{◌≡◌, ◌↔◌, ◌<◌, ◌≤◌, true, false, Some, None, IfOk, OnOk, OnErr};
 
 use crate::answers::heard_answer;
-use crate::boundaries::{first_phase, is_due, phase_after};
+use crate::boundaries::{ends_sync, first_phase, is_due, is_gather, phase_after};
 use crate::services::service_turn;
 use crate::fault::HearFault;
 use crate::port::MachinePort;
 use crate::ports::{are_clear, begin_waits, first_held, first_unknown, fresh_ports};
 use cos_api::{Call, Calls, Master, plain};
 use cos_base::{NoMemory, Octets};
-use cosim_model::{Access, Answer, Event, Plan};
+use cosim_model::{Access, Answer, Event, Plan, SessionFault};
 use end_packets::BusPlace;
 use ends_model::{Phase, Turn};
 use rp_packet::Packet;
@@ -73,12 +73,13 @@ impl<M: Master> MachineCore<M> {
     ghost use Rattle.std.specs.Prelude.{slice_get, is_some, map};
     ghost use Rattle.ends_model.specs.World.{machine_start};
     ghost use Rattle.ends_model.specs.declared.ends.Phase.TheVariants as Phase;
-    ghost use Rattle.ends_model.specs.MachineTurn.{PortEnd, machine_acts, at_port, greets, syncs, runs, works, accesses, finished, gathers, serves_held, met, first_true, is_unknown, is_due as is_boundary, is_last as is_end};
+    ghost use Rattle.ends_model.specs.MachineTurn.{PortEnd, machine_acts, at_port, greets, syncs, runs, works, accesses, finished, gathers, serves_held, met, answered, hold_request, machine_takes, first_true, is_unknown, is_due as is_boundary, is_last as is_end};
+    ghost use Rattle.cosim_model.specs.Packets.Decoded.{Valid};
     ghost use Rattle.cosim_model.specs.Parts.{IsAccess};
     ghost use Rattle.device_core.specs.Cores.{IsRead};
     ghost use Rattle.rp_packet.specs.Values.{value_of};
     ghost use Rattle.rp_packet.specs.declared.fault.Cause.{Cause};
-    ghost use Rattle.machine_core.specs.Machines.{Acts, ActsBy, Does, Hears, awaited};
+    ghost use Rattle.machine_core.specs.Machines.{Acts, ActsBy, Becomes, Does, Hears, MayAnswer, MayHold, Took, awaited, is_late};
 
     /// An end that has done nothing, with so many ports. It offers all capabilities, and needs none.
     pub fn make(
@@ -353,32 +354,70 @@ impl<M: Master> MachineCore<M> {
         ensures hears { Hears M.model self.old self.new port (value_of packet) result }
         ensures clear { self.new.end.fault ≡ None }
     {
-        let at = port as usize;
-        let event = match self.ports[at].take(&packet) {
+        let event = match self.take(port, &packet) {
             Ok(event) => event,
-            Err(fault) => return Err(HearFault::Session(fault)),
+            Err(fault) => {
+                self.is_clear();
+                return Err(HearFault::Session(fault));
+            }
         };
-        match event {
+        let result = match event {
             Event::Nothing => Ok(()),
+            Event::SyncDone => Ok(()),
             Event::Met => {
                 self.meet();
                 Ok(())
             }
-            Event::Asked(_) => self.ports[at].hold(packet),
-            Event::Told => self.ports[at].hold(packet),
             Event::Answered => {
-                if let Phase::AnswerFrom { access, .. } = self.phase {
-                    self.finish(port, access, heard_answer(access, &packet));
-                }
+                self.answer(port, &packet);
                 Ok(())
             }
-            Event::SyncDone => {
-                if matches!(self.phase, Phase::Gather) && are_clear(self.ports.as_slice()) {
-                    self.phase = phase_after(&self.master, self.plan, self.tick);
-                    self.marked = true;
-                }
-                Ok(())
-            }
+            Event::Asked(_) => self.hold(port, packet),
+            Event::Told => self.hold(port, packet),
+        };
+        self.is_clear();
+        result
+    }
+
+    /// Takes a packet into the session of the awaited port. With the last answer to its syncs a boundary ends.
+    fn take(&mut self, port: u32, packet: &Packet) -> Result<Event, SessionFault>
+        requires awaited { awaited (machine_acts M.model self.old.end) ≡ Some port }
+        requires read { IsRead (value_of packet.now) }
+        ensures took { Took M.model (machine_takes M.model self.old.end port (Valid (value_of packet.now))) self.new.end port (value_of packet.now) result }
+        ensures room { self.new.room ≡ self.old.room }
+    {
+        let at = port as usize;
+        let result = self.ports[at].take(packet);
+        if !ends_sync(&result) {
+            return result;
+        }
+        if !is_gather(self.phase) || !are_clear(self.ports.as_slice()) {
+            return result;
+        }
+        self.phase = phase_after(&self.master, self.plan, self.tick);
+        self.marked = true;
+        result
+    }
+
+    /// Holds a request that was taken, where it is no late one.
+    fn hold(&mut self, port: u32, packet: Packet) -> Result<(), HearFault>
+        requires { (q : PortEnd) × MayHold self.old.end port (value_of packet) q }
+        ensures { (q : PortEnd) → slice_get self.old.end.ports port ≡ Some q → Becomes (hold_request M.model self.old.end port q (value_of packet) (is_late q (value_of packet))) self.new.end port result }
+    {
+        let at = port as usize;
+        self.ports[at].hold(packet)
+    }
+
+    /// Ends the unit whose access was answered.
+    fn answer(&mut self, port: u32, packet: &Packet)
+        requires read { IsRead (value_of packet.now) }
+        requires answer { MayAnswer self.old.end port (value_of packet.now) }
+        requires calls { 1 ≤ self.old.room }
+        ensures { self.new.end ≡ answered M.model self.old.end (value_of packet.now).body self.old.end.phase }
+    {
+        if let Phase::AnswerFrom { access, .. } = self.phase {
+            let answer = heard_answer(access, packet);
+            self.finish(port, access, answer);
         }
     }
 
