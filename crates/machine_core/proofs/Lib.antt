@@ -8,3 +8,6 @@ mod Working
 mod Fresh
 mod Gathering
 mod Hearing
+mod Awaiting
+mod Taken
+mod Keeping

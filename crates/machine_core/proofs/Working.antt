@@ -28,7 +28,7 @@ few-bytes n (inr (inl e)) = omega (arith, e)
 few-bytes n (inr (inr (inl e))) = omega (arith, e)
 few-bytes n (inr (inr (inr e))) = omega (arith, e)
 
-free-of : (o : Option OwnRequest) → ((x : OwnRequest) → o ≡ Some x → ⊥) → o ≡ None
+pub free-of : (o : Option OwnRequest) → ((x : OwnRequest) → o ≡ Some x → ⊥) → o ≡ None
 free-of None never = refl
 free-of (Some x) never = absurd (never x refl)
 

@@ -1,9 +1,12 @@
 // The phase at first, and when boundaries are.
-ghost use Rattle.std.specs.Prelude.{◌≡◌, ◌<◌, true, false, if◌then◌else◌};
-ghost use Rattle.ends_model.specs.MachineTurn.{is_last_boundary, is_boundary_due, start_phase};
+ghost use Rattle.std.specs.Prelude.{◌≡◌, ◌<◌, true, false, map, if◌then◌else◌};
+ghost use Rattle.cosim_model.specs.Values.{all_on};
+ghost use Rattle.ends_model.specs.MachineTurn.{is_clear, is_last_boundary, is_boundary_due, start_phase};
 ghost use Rattle.ends_model.specs.declared.ends.Phase.TheVariants.{Run, Gather, Done};
 ghost use Rattle.machine_core.specs.Machines.{ends_sync as sync_ends};
 
+use crate::port::MachinePort;
+use crate::ports::are_clear;
 use cos_api::Master;
 use cosim_model::{Event, Plan, SessionFault};
 use ends_model::Phase;
@@ -44,13 +47,13 @@ pub fn is_due<M: Master>(master: &M, plan: Plan, tick: u64, marked: bool) -> boo
     !marked && (is_last(master, plan, tick) || (tick > 0 && tick % plan.quantum == 0))
 }
 
-/// Whether this is the phase in which a boundary's requests and answers are taken.
-pub fn is_gather(phase: Phase) -> bool
-    ensures yes { result ≡ true → phase ≡ Gather }
-    ensures no { result ≡ false → phase ≡ Gather → ⊥ }
+/// Whether a boundary is over: nothing is held, and no sync is out.
+pub fn is_over(phase: Phase, ports: &[MachinePort]) -> bool
+    ensures yes { result ≡ true → (phase ≡ Gather) × (all_on (map is_clear ports.now) ≡ true) }
+    ensures no { result ≡ false → phase ≡ Gather → all_on (map is_clear ports.now) ≡ false }
 {
     match phase {
-        Phase::Gather => true,
+        Phase::Gather => are_clear(ports),
         Phase::Greet { .. } => false,
         Phase::Meet { .. } => false,
         Phase::Run => false,

@@ -2,11 +2,11 @@
 ghost use Rattle.std.specs.Prelude.{◌≡◌, ◌↔◌, ◌<◌, ◌≤◌, true, false, Some, None, IfOk, OnOk, OnErr};
 
 use crate::answers::heard_answer;
-use crate::boundaries::{ends_sync, first_phase, is_due, is_gather, phase_after};
+use crate::boundaries::{ends_sync, first_phase, is_due, is_over, phase_after};
 use crate::services::service_turn;
 use crate::fault::HearFault;
 use crate::port::MachinePort;
-use crate::ports::{are_clear, begin_waits, first_held, first_unknown, fresh_ports};
+use crate::ports::{begin_waits, first_held, first_unknown, fresh_ports};
 use cos_api::{Call, Calls, Master, plain};
 use cos_base::{NoMemory, Octets};
 use cosim_model::{Access, Answer, Event, Plan, SessionFault};
@@ -391,7 +391,7 @@ impl<M: Master> MachineCore<M> {
         if !ends_sync(&result) {
             return result;
         }
-        if !is_gather(self.phase) || !are_clear(self.ports.as_slice()) {
+        if !is_over(self.phase, self.ports.as_slice()) {
             return result;
         }
         self.phase = phase_after(&self.master, self.plan, self.tick);

@@ -1,0 +1,1 @@
+use Rattle.machine_core.proofs.machine.MachineCore.answer.Goals as goal
