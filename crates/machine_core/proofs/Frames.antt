@@ -15,6 +15,11 @@ use Rattle.machine_core.specs.Machines.{Core, Does, IsMachine, IsIn, IsPortIn, A
 pub there : {A : Type 0} (xs : List A) (i : ℕ) (x : A) → i < length xs → x ≡ get_or xs i x → slice_get xs i ≡ Some x
 there xs i x within is = slice_get_read xs (length xs) i x refl within is
 
+pub only : {A : Type 0} (xs : List A) (i : ℕ) (x y : A) → slice_get xs i ≡ Some x → slice_get xs i ≡ Some y → x ≡ y
+only xs i x y one other =
+    let both : Some x ≡ Some y = sym one ∙ other in
+    cc
+
 -- what stands at a place of a list in which one element was put
 pub set-at : {A : Type 0} (xs : List A) (p i : ℕ) (y x : A) → slice_get (set xs p y) i ≡ Some x
     → ((i ≡ p) × (x ≡ y)) ⊎ ((i ≡ p → ⊥) × (slice_get xs i ≡ Some x))

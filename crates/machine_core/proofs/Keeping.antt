@@ -13,8 +13,8 @@ use Rattle.ends_model.specs.MachineTurn.{PortEnd, MachineEnd, hold_request, is_c
 use Rattle.rp_packet.specs.declared.fault.Cause.{Cause}
 use Rattle.machine_core.specs.declared.fault.HearFault.{HearFault}
 use Rattle.machine_core.specs.declared.fault.HearFault.TheVariants as hear
-use Rattle.machine_core.specs.Machines.{Becomes, IsIn, IsMachine, IsPortIn, ArePortsIn, is_late}
-use Rattle.machine_core.proofs.Frames.{same-phase, set-there, unclear}
+use Rattle.machine_core.specs.Machines.{Becomes, Core, IsIn, IsMachine, IsPortIn, ArePortsIn, is_late}
+use Rattle.machine_core.proofs.Frames.{only, same-phase, set-there, unclear}
 
 set-same : (qs : List PortEnd) (n : ℕ) (q : PortEnd) → slice_get qs n ≡ Some q → set qs n q ≡ qs
 set-same [] n q at = refl
@@ -75,7 +75,7 @@ module _ {M : Type 0} (k : MasterModel M) (h : MachineEnd M Cause) (p : ℕ) (q 
       subst (λ x. IsMachine k (record h { ports = set h.ports p x })) (sym err.2)
       (subst (λ qs. IsMachine k (record h { ports = qs })) (sym hold-same) machine)
 
-  pub hold-becomes : (r : PortEnd) (v : Result Unit HearFault)
+  hold-becomes : (r : PortEnd) (v : Result Unit HearFault)
       → OnOk v ((is_late q m ≡ false) × (r ≡ record q { held = Some m }))
       → IfErr v (λ f. (is_late q m ≡ true) × (f ≡ hear.LateWant q.last (time_of m.body)) × (r ≡ q))
       → Becomes (hold_request k h p q m (is_late q m)) (record h { ports = set h.ports p r }) p v
@@ -85,3 +85,16 @@ module _ {M : Type 0} (k : MasterModel M) (h : MachineEnd M Cause) (p : ℕ) (q 
       subst (λ x. Becomes (hold_request k h p q m (is_late q m)) (record h { ports = set h.ports p r }) p (Err x)) (sym err.1)
       (ap (λ x. record h { ports = set h.ports p x; fault = Some (p, end_fault.LateWant q.last (time_of m.body)) }) err.2
       ∙ ap (hold_request k h p q m) (sym err.0))
+
+  pub hold-seen : (r : PortEnd) (v : Result Unit HearFault)
+      → OnOk v ((is_late q m ≡ false) × (r ≡ record q { held = Some m }))
+      → IfErr v (λ f. (is_late q m ≡ true) × (f ≡ hear.LateWant q.last (time_of m.body)) × (r ≡ q))
+      → (room : ℕ) (old : Core M) → record { end = h; room = room } ≡ old → (x : PortEnd)
+      → slice_get old.end.ports p ≡ Some x
+      → Becomes (hold_request k old.end p x m (is_late x m)) (record h { ports = set h.ports p r }) p v
+  hold-seen r v ok err room old view x here =
+      let one = ap (λ (y : Core M). slice_get y.end.ports p) view ∙ here in
+      let same : q ≡ x = only h.ports p q x at one in
+      subst (λ (y : Core M). Becomes (hold_request k y.end p x m (is_late x m)) (record h { ports = set h.ports p r }) p v) view
+      (subst (λ y. Becomes (hold_request k h p y m (is_late y m)) (record h { ports = set h.ports p r }) p v) same
+      (hold-becomes r v ok err))

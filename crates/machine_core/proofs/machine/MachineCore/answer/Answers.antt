@@ -1,1 +1,0 @@
-use Rattle.machine_core.proofs.machine.MachineCore.answer.Goals as goal
