@@ -1,5 +1,5 @@
 -- Which phases await a packet of a port.
-use Rattle.std.proofs.Common.{◌≡◌, ◌⊎◌, inl, inr, ℕ, suc, ◌<◌, ◌≤◌, Bool, true, false, List, [], ◌∷◌, length, map, refl, sym, ap, ◌∙◌, subst}
+use Rattle.std.proofs.Common.{◌≡◌, ◌⊎◌, inl, inr, ℕ, ◌<◌, Bool, true, false, List, [], ◌∷◌, length, map, refl, sym, ap, ◌∙◌}
 use Rattle.std.specs.Prelude.{Option, Some, None, slice_get}
 use Rattle.std.proofs.lemmas.Option.{slice_get_within}
 use Rattle.cosim_model.specs.declared.values.Access.{Access}
@@ -10,7 +10,7 @@ use Rattle.cosim_model.specs.Parts.{MasterModel}
 use Rattle.cosim_model.specs.Sessions.{is_posted}
 use Rattle.ends_model.specs.declared.ends.Phase.{Phase}
 use Rattle.ends_model.specs.declared.ends.Phase.TheVariants.{Greet, Meet, Run, AnswerFrom, SyncTo, Gather, Done}
-use Rattle.ends_model.specs.MachineTurn.{PortEnd, MachineEnd, Act, accesses, acts_in, acts_unless, at_port, first_true, gathers, greets, held_time, is_due, is_unknown, machine_acts, runs, serves, serves_held, serves_least, syncs, works}
+use Rattle.ends_model.specs.MachineTurn.{PortEnd, MachineEnd, accesses, acts_in, acts_unless, at_port, first_true, gathers, greets, held_time, is_due, is_unknown, machine_acts, runs, serves, serves_held, serves_least, syncs, works}
 use Rattle.rp_packet.specs.declared.fault.Cause.{Cause}
 use Rattle.machine_core.specs.Machines.{Core, IsMachine, awaited}
 use Rattle.machine_core.proofs.Frames.{in-phase}

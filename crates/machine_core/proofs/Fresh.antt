@@ -1,5 +1,5 @@
 -- A machine end that has done nothing.
-use Rattle.std.proofs.Common.{◌≡◌, ℕ, zero, suc, ◌+◌, ◌<◌, ◌≤◌, false, List, [], length, refl, sym, ap, ◌∙◌, subst, arith}
+use Rattle.std.proofs.Common.{◌≡◌, ℕ, zero, suc, ◌<◌, ◌≤◌, false, List, [], refl, sym, subst, arith}
 use Rattle.std.specs.Prelude.{replicate, Some, None, slice_get}
 use Rattle.std.proofs.lemmas.List.{length-replicate}
 use Rattle.cosim_model.specs.declared.values.Plan.{Plan}
@@ -9,7 +9,7 @@ use Rattle.cosim_model.specs.Values.{all_caps, no_caps}
 use Rattle.cosim_model.specs.declared.session.Role.TheVariants.{Machine}
 use Rattle.cosim_model.specs.declared.values.Call.{Call}
 use Rattle.ends_model.specs.declared.ends.Phase.{Phase}
-use Rattle.ends_model.specs.declared.ends.Phase.TheVariants.{Run, Greet}
+use Rattle.ends_model.specs.declared.ends.Phase.TheVariants.{Greet}
 use Rattle.ends_model.specs.MachineTurn.{PortEnd, MachineEnd, start_phase}
 use Rattle.ends_model.specs.World.{machine_start}
 use Rattle.rp_packet.specs.declared.fault.Cause.{Cause}

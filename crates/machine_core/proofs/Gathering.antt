@@ -1,5 +1,5 @@
 -- What a machine end does in a boundary.
-use Rattle.std.proofs.Common.{◌≡◌, ℕ, zero, suc, ◌+◌, ◌<◌, ◌≤◌, Bool, true, false, List, [], ◌∷◌, ◌++◌, length, map, set, refl, sym, ap, ◌∙◌, subst, arith}
+use Rattle.std.proofs.Common.{◌≡◌, ℕ, zero, suc, ◌≤◌, Bool, true, false, List, [], ◌∷◌, ◌++◌, length, map, set, refl, sym, ap, ◌∙◌, subst, arith}
 use Rattle.std.specs.Prelude.{not, ◌&&◌, nat_eq, nat_le, if◌then◌else◌, Option, Some, None, is_some, is_none, option_map, slice_get}
 use Rattle.std.proofs.lemmas.List.{append-nil, length-set}
 use Rattle.std.proofs.lemmas.Option.{slice_get_within}
@@ -104,9 +104,11 @@ first-held qs p e = by (least (map held_time qs)) refl e
     by None found f = absurd (cc (f))
     by (Some r) found f =
         let same : r.0 ≡ p = cc in
-        let here = least-there (map held_time qs) r found in
-        (r.1, found ∙ ap (λ n. Some (n, r.1)) same,
-        held-there qs p r.1 (ap (λ n. slice_get (map held_time qs) n) (sym same) ∙ here))
+        let here = least-there (map held_time qs) r found in (
+          r.1,
+          found ∙ ap (λ n. Some (n, r.1)) same,
+          held-there qs p r.1 (ap (λ n. slice_get (map held_time qs) n) (sym same) ∙ here),
+        )
 
 -- Where all ports are known and nothing is held, all are clear.
 
@@ -152,8 +154,8 @@ all-clear : (qs : List PortEnd) → first_true (map is_unknown qs) ≡ None → 
     → all_on (map is_clear qs) ≡ true
 all-clear qs known none =
     all-by qs (λ i q at.
-        clear-by q.held q.session.own_sync (first-never is_unknown qs i q known at)
-        (none-least (map held_time qs) none i (held_time q) (time-there qs i q at)))
+    clear-by q.held q.session.own_sync (first-never is_unknown qs i q known at)
+    (none-least (map held_time qs) none i (held_time q) (time-there qs i q at)))
 
 no-least : (o : Option (ℕ × ℕ)) → None ≡ option_map (λ r. r.0) o → o ≡ None
 no-least None e = refl
@@ -267,18 +269,20 @@ module _ {M : Type 0} (k : MasterModel M) (h : MachineEnd M Cause) (p : ℕ) (q 
       let no : answered ≡ false = serves.kind ∙ ap not test in
       let port = serves.end ∙ ap (λ a. record q { held = None; session = session_after q.session a }) no in
       subst (λ b. Does (serves_as k h p q m b) (record { end = h; room = room })
-      (record { end = record h { master = new; ports = set h.ports p r; calls = cs }; room = more }) before after t) (sym test)
-      (is ∙ ap (λ a. if a then turn.Sent p else turn.Served p) no,
-      (λ i. record h { master = serves.does i; ports = set h.ports p (port i); calls = serves.keeps i }),
-      serves.sends ∙ ap (λ a. before ++ sent_for m (serve_body k h.master h.tick p m.body).answer a) no ∙ append-nil before)
+      (record { end = record h { master = new; ports = set h.ports p r; calls = cs }; room = more }) before after t) (sym test) (
+        is ∙ ap (λ a. if a then turn.Sent p else turn.Served p) no,
+        (λ i. record h { master = serves.does i; ports = set h.ports p (port i); calls = serves.keeps i }),
+        serves.sends ∙ ap (λ a. before ++ sent_for m (serve_body k h.master h.tick p m.body).answer a) no ∙ append-nil before,
+      )
   served-by false test room more t is =
       let yes_ : answered ≡ true = serves.kind ∙ ap not test in
       let port = serves.end ∙ ap (λ a. record q { held = None; session = session_after q.session a }) yes_ in
       subst (λ b. Does (serves_as k h p q m b) (record { end = h; room = room })
-      (record { end = record h { master = new; ports = set h.ports p r; calls = cs }; room = more }) before after t) (sym test)
-      (is ∙ ap (λ a. if a then turn.Sent p else turn.Served p) yes_,
-      (λ i. record h { master = serves.does i; ports = set h.ports p (port i); calls = serves.keeps i }),
-      serves.sends ∙ ap (λ a. before ++ sent_for m (serve_body k h.master h.tick p m.body).answer a) yes_)
+      (record { end = record h { master = new; ports = set h.ports p r; calls = cs }; room = more }) before after t) (sym test) (
+        is ∙ ap (λ a. if a then turn.Sent p else turn.Served p) yes_,
+        (λ i. record h { master = serves.does i; ports = set h.ports p (port i); calls = serves.keeps i }),
+        serves.sends ∙ ap (λ a. before ++ sent_for m (serve_body k h.master h.tick p m.body).answer a) yes_,
+      )
 
   pub serve-does : (room more : ℕ) (old : Core M) → record { end = h; room = room } ≡ old → (t : Turn)
       → t ≡ (if answered then turn.Sent p else turn.Served p)

@@ -1,15 +1,14 @@
 -- The hellos of a machine end.
-use Rattle.std.proofs.Common.{◌≡◌, ℕ, zero, suc, ◌+◌, ◌<◌, ◌≤◌, Bool, true, false, List, ◌++◌, length, set, refl, sym, ap, ◌∙◌, subst, arith, add-one}
-use Rattle.std.specs.Prelude.{nat_lt, Some, None, slice_get}
+use Rattle.std.proofs.Common.{◌≡◌, ℕ, suc, ◌+◌, ◌<◌, ◌≤◌, Bool, true, false, List, ◌++◌, length, set, refl, sym, ap, ◌∙◌, subst, arith, add-one}
+use Rattle.std.specs.Prelude.{nat_lt, Some, slice_get}
 use Rattle.std.proofs.lemmas.Bool.Decides.{nat_tests}
 use Rattle.std.proofs.lemmas.List.{length-set}
-use Rattle.std.proofs.lemmas.Option.{slice_get_within}
 use Rattle.cosim_model.specs.Parts.{MasterModel}
 use Rattle.cosim_model.specs.Sessions.{hello_of}
 use Rattle.ends_model.specs.declared.ends.Phase.{Phase}
 use Rattle.ends_model.specs.declared.ends.Phase.TheVariants.{Greet, Meet}
 use Rattle.ends_model.specs.declared.ends.Turn.TheVariants as turn
-use Rattle.ends_model.specs.MachineTurn.{PortEnd, MachineEnd, at_port, greeted, greets, after_greet, put_port, to_meet, waits_at, with_wait}
+use Rattle.ends_model.specs.MachineTurn.{PortEnd, MachineEnd, at_port, greeted, greets, after_greet, put_port, waits_at, with_wait}
 use Rattle.rp_packet.specs.declared.fault.Cause.{Cause}
 use Rattle.rp_packet.specs.Spelling.{packet_bytes}
 use Rattle.machine_core.specs.Machines.{Core, Does, IsMachine, IsPortIn, ArePortsIn}

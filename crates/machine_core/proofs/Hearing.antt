@@ -1,15 +1,14 @@
 -- A machine end takes a packet.
-use Rattle.std.proofs.Common.{◌≡◌, ℕ, zero, suc, ◌+◌, ◌<◌, ◌≤◌, Bool, true, false, List, [], ◌∷◌, ◌++◌, length, map, set, refl, sym, ap, ◌∙◌, subst, arith, add-one}
-use Rattle.std.specs.Prelude.{nat_lt, Option, Some, None, is_some, slice_get}
+use Rattle.std.proofs.Common.{◌≡◌, ℕ, suc, ◌+◌, ◌<◌, Bool, true, length, set, refl, sym, ap, ◌∙◌, arith, add-one}
+use Rattle.std.specs.Prelude.{nat_lt, Some, slice_get}
 use Rattle.std.proofs.lemmas.List.{length-set}
 use Rattle.cosim_model.specs.Parts.{MasterModel}
-use Rattle.ends_model.specs.declared.ends.Phase.{Phase}
-use Rattle.ends_model.specs.declared.ends.Phase.TheVariants.{Greet, Meet, Run, AnswerFrom, SyncTo, Gather, Done}
+use Rattle.ends_model.specs.declared.ends.Phase.TheVariants.{Meet, Run}
 use Rattle.ends_model.specs.MachineTurn.{PortEnd, MachineEnd, met, to_meet, waits_at, with_wait}
 use Rattle.rp_packet.specs.declared.fault.Cause.{Cause}
-use Rattle.machine_core.specs.Machines.{Core, IsMachine, IsPortIn, ArePortsIn}
+use Rattle.machine_core.specs.Machines.{Core, IsMachine, ArePortsIn}
 use Rattle.machine_core.proofs.Frames.{in-phase, ports-in, with-ports, wait-ports}
-use Rattle.machine_core.proofs.Greeting.{test-more, test-last}
+use Rattle.machine_core.proofs.Greeting.{test-more}
 
 module _ {M : Type 0} (k : MasterModel M) (h : MachineEnd M Cause) (p : ℕ) (phase : h.phase ≡ Meet p) where
   meet-ports : (n : ℕ) → IsMachine k h → ArePortsIn (Meet n) h.ports
@@ -31,8 +30,8 @@ module _ {M : Type 0} (k : MasterModel M) (h : MachineEnd M Cause) (p : ℕ) (ph
       let was = in-phase k h (Meet p) phase machine in
       with-ports k h Run h.ports machine refl
       (λ i q at.
-          (let one = ports-in k h (Meet p) phase machine i q at in
-          record { greeted = one.greeted; other = one.other; sync = one.sync }))
+      (let one = ports-in k h (Meet p) phase machine i q at in
+      record { greeted = one.greeted; other = one.other; sync = one.sync }))
       (was.1, λ marked. absurd (cc (marked, was.2)))
 
   met-by : (m : ℕ) (old : Core M) → record { end = h; room = m } ≡ old → (b : Bool) → nat_lt (suc p) (length h.ports) ≡ b

@@ -1,9 +1,9 @@
 -- What a session keeps as it takes a packet, and which requests are held.
-use Rattle.std.proofs.Common.{◌≡◌, ℕ, ◌+◌, ◌<◌, ◌≤◌, Bool, true, false, List, refl, sym, ap, ◌∙◌, subst, arith, Result, Ok, Err}
-use Rattle.std.specs.Prelude.{not, ◌&&◌, nat_eq, Option, Some, None, is_some, option_map}
+use Rattle.std.proofs.Common.{◌≡◌, ℕ, Bool, true, false, List, refl, sym, ap, ◌∙◌, subst, arith, Result, Ok, Err}
+use Rattle.std.specs.Prelude.{not, ◌&&◌, nat_eq, Option, Some, None}
 use Rattle.std.proofs.lemmas.Bool.Decides.{nat_tests}
 use Rattle.cosim_model.specs.declared.session.Event.{Event}
-use Rattle.cosim_model.specs.declared.session.Event.TheVariants.{Nothing, Met, Asked, Told, Answered, SyncDone}
+use Rattle.cosim_model.specs.declared.session.Event.TheVariants.{Nothing, Answered}
 use Rattle.cosim_model.specs.declared.session.OwnRequest.{OwnRequest}
 use Rattle.cosim_model.specs.declared.session.Role.{Role}
 use Rattle.cosim_model.specs.declared.session.Role.TheVariants.{Machine, Device}
@@ -12,11 +12,10 @@ use Rattle.cosim_model.specs.declared.session.Ticket.{Ticket}
 use Rattle.cosim_model.specs.declared.values.Caps.{Caps}
 use Rattle.cosim_model.specs.Packets.{Body, Packet, BusFields, code_of, is_response}
 use Rattle.cosim_model.specs.Packets.Body.{Nop, Hello, Cfg, Read, Write, Interrupt, Sync}
-use Rattle.cosim_model.specs.Sessions.{Session, or_else, fault_if, fault_of, flood, hello_missing, hello_again, wrong_version, hello_lacks, unsupported, stray_answer, wrong_answer, wrong_len, is_answer_of, outstanding_request, not_in_common, time_backwards, early_posted, second_request, is_posted, is_posted_body, is_taken, asked_at, event_of, ticket_of, counted, judged, take_kept, take_packet, hello_sent, begin_wait, request_sent, unless_posted, awaiting, other_answered}
+use Rattle.cosim_model.specs.Sessions.{Session, or_else, fault_if, fault_of, flood, hello_missing, hello_again, wrong_version, hello_lacks, unsupported, stray_answer, wrong_answer, wrong_len, is_answer_of, not_in_common, time_backwards, early_posted, second_request, is_posted, is_posted_body, is_taken, asked_at, event_of, counted, judged, take_kept, take_packet, hello_sent, begin_wait, request_sent, unless_posted, awaiting}
 use Rattle.ends_model.specs.MachineTurn.{PortEnd}
 use Rattle.device_core.specs.Cores.{IsRead}
-use Rattle.rp_packet.specs.Values.{value_of}
-use Rattle.machine_core.specs.Ports.{IsHeld, IsPort, IsServed, IsTaken, IsTakenOr, Keeps, Fits}
+use Rattle.machine_core.specs.Ports.{IsHeld, IsPort, IsServed, IsTakenOr, Keeps, Fits}
 
 -- What a step of the own side leaves as it is.
 pub record Stays (s r : Session) : Type 0 where

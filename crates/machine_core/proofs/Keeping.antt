@@ -1,19 +1,18 @@
 -- A request that was taken is held, or is too late.
-use Rattle.std.proofs.Common.{◌≡◌, ◌⊎◌, inl, inr, ℕ, zero, suc, ◌<◌, ◌≤◌, Bool, true, false, List, [], ◌∷◌, length, map, set, refl, sym, ap, ◌∙◌, subst, arith, Result, Ok, Err}
-use Rattle.std.specs.Prelude.{IfErr, OnOk, Option, Some, None, is_some, slice_get}
+use Rattle.std.proofs.Common.{◌≡◌, ℕ, zero, suc, true, false, List, [], ◌∷◌, set, refl, sym, ap, ◌∙◌, subst, arith, Result, Ok, Err}
+use Rattle.std.specs.Prelude.{IfErr, OnOk, Some, is_some, slice_get}
 use Rattle.std.proofs.lemmas.List.{length-set}
 use Rattle.std.proofs.lemmas.Option.{slice_get_within}
 use Rattle.cosim_model.specs.declared.session.EndFault.TheVariants as end_fault
 use Rattle.cosim_model.specs.Packets.{Packet}
 use Rattle.cosim_model.specs.Parts.{MasterModel}
-use Rattle.cosim_model.specs.Values.{all_on}
 use Rattle.ends_model.specs.declared.ends.Phase.{Phase}
 use Rattle.ends_model.specs.declared.ends.Phase.TheVariants.{Greet, Meet, Run, AnswerFrom, SyncTo, Gather, Done}
-use Rattle.ends_model.specs.MachineTurn.{PortEnd, MachineEnd, hold_request, is_clear, time_of}
+use Rattle.ends_model.specs.MachineTurn.{PortEnd, MachineEnd, hold_request, time_of}
 use Rattle.rp_packet.specs.declared.fault.Cause.{Cause}
 use Rattle.machine_core.specs.declared.fault.HearFault.{HearFault}
 use Rattle.machine_core.specs.declared.fault.HearFault.TheVariants as hear
-use Rattle.machine_core.specs.Machines.{Becomes, Core, IsIn, IsMachine, IsPortIn, ArePortsIn, is_late}
+use Rattle.machine_core.specs.Machines.{Becomes, Core, IsIn, IsMachine, IsPortIn, is_late}
 use Rattle.machine_core.proofs.Frames.{only, same-phase, set-there, unclear}
 
 set-same : (qs : List PortEnd) (n : ℕ) (q : PortEnd) → slice_get qs n ≡ Some q → set qs n q ≡ qs
@@ -40,9 +39,11 @@ module _ {M : Type 0} (k : MasterModel M) (h : MachineEnd M Cause) (p : ℕ) (q 
   hold-in Run was = was
   hold-in (AnswerFrom n a) was = let size = length-set h.ports p (record q { held = Some m }) in let within = was.0 in (omega (arith, size, within), was.1, was.2, was.3)
   hold-in (SyncTo n) was = let size = length-set h.ports p (record q { held = Some m }) in let within = was.0 in (omega (arith, size, within), was.1)
-  hold-in Gather was =
-      (unclear (set h.ports p (record q { held = Some m })) p (record q { held = Some m })
-      (set-there h.ports p (record q { held = Some m }) (slice_get_within h.ports p q at)) refl, was.1)
+  hold-in Gather was = (
+    unclear (set h.ports p (record q { held = Some m })) p (record q { held = Some m })
+        (set-there h.ports p (record q { held = Some m }) (slice_get_within h.ports p q at)) refl,
+    was.1,
+  )
   hold-in Done was = was
 
   hold-put : IsMachine k h → (h.phase ≡ Gather → is_some q.session.own_sync ≡ true)

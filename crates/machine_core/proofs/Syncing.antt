@@ -122,9 +122,11 @@ module _ {M : Type 0} (k : MasterModel M) (h : MachineEnd M Cause) (p : ℕ) (q 
         let waiting : is_clear (with_wait r) ≡ false =
         open-port (with_wait r) _ (ap (λ x. x.session.own_sync) is) in
         with-ports k h Gather ws machine size
-        (subst (λ qs. ArePortsIn Gather qs) (sym waits) (wait-all Gather (set h.ports p r) (gather-ports last)))
-        (ap (λ qs. all_on (map is_clear qs)) waits
-        ∙ unclear (map with_wait (set h.ports p r)) p (with_wait r) here waiting, was.1)
+        (subst (λ qs. ArePortsIn Gather qs) (sym waits) (wait-all Gather (set h.ports p r) (gather-ports last))) (
+          ap (λ qs. all_on (map is_clear qs)) waits
+              ∙ unclear (map with_wait (set h.ports p r)) p (with_wait r) here waiting,
+          was.1,
+        )
 
 -- what was done
 

@@ -1,5 +1,5 @@
 -- A packet was taken into the session of the awaited port.
-use Rattle.std.proofs.Common.{◌≡◌, ◌⊎◌, inl, inr, ℕ, zero, suc, ◌+◌, ◌<◌, ◌≤◌, Bool, true, false, List, [], ◌∷◌, length, map, set, refl, sym, ap, ◌∙◌, subst, arith, Result, Ok, Err}
+use Rattle.std.proofs.Common.{◌≡◌, inl, inr, ℕ, zero, suc, ◌≤◌, Bool, true, false, List, [], ◌∷◌, map, set, refl, sym, ap, ◌∙◌, subst, arith, Result, Ok, Err}
 use Rattle.std.specs.Prelude.{◌&&◌, if◌then◌else◌, Option, Some, None, is_some, is_none, slice_get}
 use Rattle.std.proofs.lemmas.List.{length-set}
 use Rattle.cosim_model.specs.declared.session.Event.{Event}
@@ -15,14 +15,13 @@ use Rattle.cosim_model.specs.Sessions.{Session, take_packet}
 use Rattle.cosim_model.specs.Values.{all_on}
 use Rattle.ends_model.specs.declared.ends.Phase.{Phase}
 use Rattle.ends_model.specs.declared.ends.Phase.TheVariants.{Greet, Meet, Run, AnswerFrom, SyncTo, Gather, Done}
-use Rattle.ends_model.specs.MachineTurn.{PortEnd, MachineEnd, faulted, gathered, hold_request, is_clear, is_last, is_unknown, machine_hears_at, machine_judges, machine_takes, machine_took, time_of}
+use Rattle.ends_model.specs.MachineTurn.{PortEnd, MachineEnd, faulted, gathered, hold_request, is_clear, is_last, is_unknown, machine_hears_at, machine_judges, machine_takes, time_of}
 use Rattle.cosim_model.specs.declared.session.EndFault.TheVariants as end_fault
 use Rattle.rp_packet.specs.declared.fault.Cause.{Cause}
-use Rattle.machine_core.specs.Ports.{IsHeld, IsShort, IsTaken, IsTakenOr, Keeps, Fits}
+use Rattle.machine_core.specs.Ports.{IsHeld, IsShort, IsTakenOr, Keeps, Fits}
 use Rattle.machine_core.specs.Machines.{Core, IsIn, IsMachine, IsPortIn, ArePortsIn, MayAnswer, MayHold, Took, ends_sync, is_late}
 use Rattle.machine_core.proofs.Awaiting.{IsAwaiting, awaiting-there}
 use Rattle.machine_core.proofs.Frames.{in-phase, ports-in, put-there, same-phase, set-there, set-set, unclear}
-use Rattle.machine_core.proofs.Gathering.{some-of}
 use Rattle.machine_core.proofs.Syncing.{open-port}
 use Rattle.machine_core.proofs.Working.{free-of}
 
@@ -129,11 +128,11 @@ module _ {M : Type 0} (k : MasterModel M) (h : MachineEnd M Cause) (p : ℕ) (q 
       → IsMachine k (record h { ports = set h.ports p r })
   taken-machine awaits sync =
       taken-by awaits (λ none. ap (λ o. is_some o) sync ∙ none) (λ phase.
-          let facts = gather-facts awaits phase in
-          let within = awaiting-there k h p machine awaits in (
-            λ some. absurd (no-held r.held (held ∙ facts.0) some),
-            unclear (set h.ports p r) p r (set-there h.ports p r within) (open-port r facts.1.0 (sync ∙ facts.1.1)),
-          ))
+      let facts = gather-facts awaits phase in
+      let within = awaiting-there k h p machine awaits in (
+        λ some. absurd (no-held r.held (held ∙ facts.0) some),
+        unclear (set h.ports p r) p r (set-there h.ports p r within) (open-port r facts.1.0 (sync ∙ facts.1.1)),
+      ))
 
   -- the sync was answered
   pub answered-machine : IsAwaiting h p → r.session.own_sync ≡ None
@@ -141,8 +140,8 @@ module _ {M : Type 0} (k : MasterModel M) (h : MachineEnd M Cause) (p : ℕ) (q 
       → IsMachine k (record h { ports = set h.ports p r })
   answered-machine awaits gone unclear_yet =
       taken-by awaits (λ none. ap (λ o. is_some o) gone) (λ phase.
-          let facts = gather-facts awaits phase in
-          (λ some. absurd (no-held r.held (held ∙ facts.0) some), unclear_yet phase))
+      let facts = gather-facts awaits phase in
+      (λ some. absurd (no-held r.held (held ∙ facts.0) some), unclear_yet phase))
 
 -- The boundary is over.
 

@@ -1,6 +1,6 @@
 -- Units of a machine end: local ones, and accesses.
-use Rattle.std.proofs.Common.{◌≡◌, ◌⊎◌, inl, inr, ℕ, zero, suc, ◌+◌, ◌^◌, ◌<◌, ◌≤◌, Bool, true, false, List, [], ◌∷◌, ◌++◌, length, map, set, refl, sym, ap, ◌∙◌, subst, arith, add-one}
-use Rattle.std.specs.Prelude.{not, ◌&&◌, ◌||◌, nat_eq, nat_lt, Option, Some, None, is_some, is_none, slice_get}
+use Rattle.std.proofs.Common.{◌≡◌, inl, inr, ℕ, ◌+◌, ◌<◌, ◌≤◌, Bool, true, false, List, ◌++◌, length, set, refl, sym, ap, ◌∙◌, subst, arith}
+use Rattle.std.specs.Prelude.{not, ◌&&◌, ◌||◌, nat_eq, Option, Some, None, is_some, slice_get}
 use Rattle.std.proofs.lemmas.Bool.Decides.{nat_tests}
 use Rattle.std.proofs.lemmas.List.{length-set}
 use Rattle.cosim_model.specs.declared.session.OwnRequest.{OwnRequest}
@@ -8,19 +8,17 @@ use Rattle.cosim_model.specs.declared.values.Access.{Access}
 use Rattle.cosim_model.specs.declared.values.Answer.{Answer}
 use Rattle.cosim_model.specs.declared.values.Bus.{Bus}
 use Rattle.cosim_model.specs.declared.values.Call.{Call}
-use Rattle.cosim_model.specs.declared.values.Call.TheVariants as call
 use Rattle.cosim_model.specs.Packets.{BusFields}
 use Rattle.cosim_model.specs.Parts.{MasterModel, IsMaster, IsAccess, IsSize}
 use Rattle.cosim_model.specs.Sessions.{request_of}
 use Rattle.cosim_model.specs.Values.{plain}
-use Rattle.ends_model.specs.declared.ends.Phase.{Phase}
 use Rattle.ends_model.specs.declared.ends.Phase.TheVariants.{Run, AnswerFrom}
 use Rattle.ends_model.specs.declared.ends.Turn.TheVariants as turn
-use Rattle.ends_model.specs.MachineTurn.{PortEnd, MachineEnd, Act, access_body, access_fields, accesses, at_port, bus_body, finished, is_boundary_due, is_due, is_last, is_last_boundary, put_port, requested, runs, with_wait, works}
+use Rattle.ends_model.specs.MachineTurn.{PortEnd, MachineEnd, access_body, access_fields, accesses, at_port, bus_body, finished, is_due, is_last, requested, with_wait}
 use Rattle.rp_packet.specs.declared.fault.Cause.{Cause}
 use Rattle.rp_packet.specs.Spelling.{packet_bytes}
-use Rattle.machine_core.specs.Machines.{Core, Does, IsFree, IsMachine, IsPortIn, ArePortsIn}
-use Rattle.machine_core.proofs.Frames.{does-seen, put-ports, same-phase, put-there, set-set, wait-ports, in-phase, ports-in, with-ports}
+use Rattle.machine_core.specs.Machines.{Core, Does, IsMachine, ArePortsIn}
+use Rattle.machine_core.proofs.Frames.{does-seen, same-phase, put-there, set-set, wait-ports, in-phase, ports-in, with-ports}
 
 pub few-bytes : (n : ℕ) → IsSize n → n ≤ 8
 few-bytes n (inl e) = omega (arith, e)
@@ -216,10 +214,11 @@ module _ {M : Type 0} (k : MasterModel M) (h : MachineEnd M Cause) (p : ℕ) (a 
     pub sends-awaited : (x w : PortEnd) → a.posted ≡ false → slice_get (set h.ports p r) p ≡ Some x → w ≡ with_wait x
         → Asks (record h { ports = set (set h.ports p r) p w })
     sends-awaited x w test here waits =
-        asks-by _ false test
-        (refl,
-        (λ i. record h { phase = phase i; ports = set (set h.ports p r) p (waits i) })
-        ∙ ap (λ qs. record h { phase = AnswerFrom p a; ports = qs }) (set-set h.ports p r (with_wait x))
-        ∙ ap (λ y. record h { phase = AnswerFrom p a; ports = set h.ports p (with_wait y) })
-        (put-there h.ports p r x here ∙ port-as false test),
-        request-as false test)
+        asks-by _ false test (
+          refl,
+          (λ i. record h { phase = phase i; ports = set (set h.ports p r) p (waits i) })
+              ∙ ap (λ qs. record h { phase = AnswerFrom p a; ports = qs }) (set-set h.ports p r (with_wait x))
+              ∙ ap (λ y. record h { phase = AnswerFrom p a; ports = set h.ports p (with_wait y) })
+              (put-there h.ports p r x here ∙ port-as false test),
+          request-as false test,
+        )

@@ -1,5 +1,5 @@
 -- A machine end without the bytes that it receives: the machine end of the definitions, which keeps no fault here.
-use Rattle.std.specs.Prelude.{◌≡◌, ℕ, ◌<◌, ◌≤◌, Bool, true, false, nat_lt, List, [], ◌++◌, length, map, Option, Some, None}
+use Rattle.std.specs.Prelude.{◌≡◌, ℕ, ◌<◌, ◌≤◌, Bool, true, false, nat_lt, List, ◌++◌, length, map, Option, Some, None}
 use Rattle.std.specs.Prelude.{is_some, slice_get, Result, Ok, Err}
 use Rattle.cos_base.specs.declared.no_memory.NoMemory.{NoMemory}
 use Rattle.cosim_model.specs.declared.session.EndFault.TheVariants as end_fault

@@ -1,11 +1,11 @@
 -- What always holds of a port of the machine end, and what a session keeps as it takes a packet.
-use Rattle.std.specs.Prelude.{◌≡◌, ℕ, ◌≤◌, Bool, true, false, Option, Some, None, is_some, Result, Ok, Err}
+use Rattle.std.specs.Prelude.{◌≡◌, ◌≤◌, true, false, Option, Some, None, Result, Ok, Err}
 use Rattle.cosim_model.specs.declared.session.Event.{Event}
 use Rattle.cosim_model.specs.declared.session.Event.TheVariants.{Nothing, Met, Asked, Told, Answered, SyncDone}
 use Rattle.cosim_model.specs.declared.session.OwnRequest.{OwnRequest}
 use Rattle.cosim_model.specs.declared.session.Role.TheVariants.{Machine}
 use Rattle.cosim_model.specs.declared.session.SessionFault.{SessionFault}
-use Rattle.cosim_model.specs.Packets.{Body, Packet, BusFields, code_of, is_response}
+use Rattle.cosim_model.specs.Packets.{Body, Packet, code_of, is_response}
 use Rattle.cosim_model.specs.Packets.Body.{Nop, Hello, Cfg, Read, Write, Interrupt, Sync}
 use Rattle.cosim_model.specs.Sessions.{Session, is_posted, ticket_of}
 use Rattle.ends_model.specs.MachineTurn.{PortEnd}

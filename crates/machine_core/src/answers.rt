@@ -24,7 +24,10 @@ pub fn heard_answer(access: Access, packet: &Packet) -> Answer
 {
     let answer = match packet {
         Packet::Read(_, bus) => read_answer(bus),
-        Packet::Write(_, bus) => Answer { code: bus.code(), value: 0 },
+        Packet::Write(_, bus) => Answer {
+            code: bus.code(),
+            value: 0,
+        },
         Packet::Nop(_) => NONE,
         Packet::Hello(..) => NONE,
         Packet::Cfg(..) => NONE,

@@ -3,10 +3,10 @@ ghost use Rattle.std.specs.Prelude.{◌≡◌, ◌↔◌, ◌<◌, ◌≤◌, tr
 
 use crate::answers::heard_answer;
 use crate::boundaries::{ends_sync, first_phase, is_due, is_over, phase_after};
-use crate::services::service_turn;
 use crate::fault::HearFault;
 use crate::port::MachinePort;
 use crate::ports::{begin_waits, first_held, first_unknown, fresh_ports};
+use crate::services::service_turn;
 use cos_api::{Call, Calls, Master, plain};
 use cos_base::{NoMemory, Octets};
 use cosim_model::{Access, Answer, Event, Plan, SessionFault};

@@ -194,7 +194,16 @@ impl MachinePort {
         ensures err { OnErr result ((self.new ≡ self.old) × (master.new ≡ master.old) × (calls.new ≡ calls.old) × (out.new.bytes ≡ out.old.bytes)) }
     {
         let answered = match &self.held {
-            Some(packet) => serve_packet(&mut self.session, place, master, calls, tick, port, packet, out)?,
+            Some(packet) => serve_packet(
+                &mut self.session,
+                place,
+                master,
+                calls,
+                tick,
+                port,
+                packet,
+                out,
+            )?,
             None => unreachable!(),
         };
         self.held = None;

@@ -40,9 +40,7 @@ const LAST_LINE: u32 = 31;
 fn is_served(bus: &BusAccess) -> bool
     ensures { result ≡ is_master_size (fields_of bus.now) }
 {
-    bus.len >= 1
-        && bus.len <= MOST_DATA
-        && (bus.stream_width == 0 || bus.stream_width == bus.len)
+    bus.len >= 1 && bus.len <= MOST_DATA && (bus.stream_width == 0 || bus.stream_width == bus.len)
 }
 
 /// Keeps the call of a read, where a want can hold it.

@@ -1,4 +1,4 @@
-use Rattle.std.proofs.Common.{◌<◌, ◌≤◌, arith}
+use Rattle.std.proofs.Common.{◌≤◌, arith}
 use Rattle.end_packets.proofs.Values.{bits-small}
 use Rattle.machine_core.proofs.EnabledBytes.{bits-few, bits-fit}
 use Rattle.machine_core.proofs.lanes.+mask_from.Goals as goal

@@ -1,4 +1,3 @@
-use Rattle.std.proofs.Common.{◌≡◌, ◌-◌, ◌++◌, length, take}
 use Rattle.machine_core.proofs.EnabledBytes.{IsCleared}
 use Rattle.machine_core.proofs.lanes.clear_disabled.Given as goal
 

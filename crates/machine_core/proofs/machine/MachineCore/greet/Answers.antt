@@ -1,9 +1,5 @@
-use Rattle.std.proofs.Common.{ap, ◌∙◌, sym, subst, length, set, arith, ◌≤◌, ◌<◌, ◌+◌}
+use Rattle.std.proofs.Common.{ap, ◌∙◌, length, set, arith, ◌≤◌, ◌<◌, ◌+◌}
 use Rattle.std.proofs.lemmas.List.{length-set}
-use Rattle.std.specs.Prelude.{slice_get}
-use Rattle.ends_model.specs.declared.ends.Turn.TheVariants as turn
-use Rattle.ends_model.specs.MachineTurn.{at_port, greets}
-use Rattle.machine_core.specs.Machines.{Core, Does}
 use Rattle.machine_core.proofs.Frames.{there, in-phase}
 use Rattle.machine_core.proofs.Greeting.{not-greeted, greet-more, greet-last, greets-more, greets-last}
 use Rattle.machine_core.proofs.machine.MachineCore.greet.Goals as goal

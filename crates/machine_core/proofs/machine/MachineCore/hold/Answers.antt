@@ -13,11 +13,12 @@ invariant_of-self g c =
     let may = c.requires.1 in
     let one = ap (λ e. slice_get e.end.ports p) c.self.view_is ∙ may.there in
     let at = there qs p _ (slice_get_within qs p _ one) c.index_mut.ensures.value in
-    let same = only qs p _ _ one at in
-    (c.self.invariant.0,
-    hold-machine g.M.Master.model _ p _ (value_of c.args.packet) at _ _ c.hold.ensures.ok c.hold.ensures.err c.self.invariant.1
-    (λ phase. ap (λ x. is_some x.session.own_sync) (sym same)
-    ∙ may.synced (ap (λ e. e.end.phase) (sym c.self.view_is) ∙ phase)))
+    let same = only qs p _ _ one at in (
+      c.self.invariant.0,
+      hold-machine g.M.Master.model _ p _ (value_of c.args.packet) at _ _ c.hold.ensures.ok c.hold.ensures.err c.self.invariant.1
+          (λ phase. ap (λ x. is_some x.session.own_sync) (sym same)
+          ∙ may.synced (ap (λ e. e.end.phase) (sym c.self.view_is) ∙ phase)),
+    )
 
 pub returns : goal.returns
 returns g c q here =

@@ -1,4 +1,4 @@
-use Rattle.std.proofs.Common.{ap, ◌∙◌, sym, length, set, arith, ◌≤◌, ◌<◌, ◌+◌}
+use Rattle.std.proofs.Common.{ap, ◌∙◌, length, arith, ◌≤◌, ◌<◌, ◌+◌}
 use Rattle.std.specs.Vec.{with_item}
 use Rattle.ends_model.specs.MachineTurn.{with_wait}
 use Rattle.machine_core.proofs.Scanning.{all-changed}

@@ -1,4 +1,4 @@
-use Rattle.std.proofs.Common.{refl, sym, ap, ◌∙◌, length, arith, ◌<◌}
+use Rattle.std.proofs.Common.{refl, sym, ap, ◌∙◌, arith}
 use Rattle.std.specs.Prelude.{map}
 use Rattle.cosim_model.specs.Values.{all_on}
 use Rattle.ends_model.specs.MachineTurn.{is_clear}
@@ -31,9 +31,10 @@ invariant_of-self g c =
     let is = c.take-result.ensures.port in
     let keeps = c.take-result.ensures.keeps in
     let held = ap (λ x. x.held) is in
-    let more = sym c.if-not-ends_sync.ensures in
-    (c.self.invariant.0,
-    taken-machine k _ p _ _ at keeps held machine awaits (sync-kept c.index_mut.result.now.session c.take-result.new.self.session m _ c.take-result.ensures.taken more))
+    let more = sym c.if-not-ends_sync.ensures in (
+      c.self.invariant.0,
+      taken-machine k _ p _ _ at keeps held machine awaits (sync-kept c.index_mut.result.now.session c.take-result.new.self.session m _ c.take-result.ensures.taken more),
+    )
 
 pub returns-then-not-ends_sync-clause-took : goal.returns-then-not-ends_sync-clause-took
 returns-then-not-ends_sync-clause-took g c =
@@ -64,11 +65,12 @@ invariant_of-self-then-not-is_over g c =
     let is = c.take-result.ensures.port in
     let keeps = c.take-result.ensures.keeps in
     let held = ap (λ x. x.held) is in
-    let ends = sym c.if-not-ends_sync.ensures in
-    (c.self.invariant.0,
-    answered-machine k _ p _ _ at keeps held machine awaits (sync-gone c.index_mut.result.now.session c.take-result.new.self.session m _ c.take-result.ensures.taken ends)
-    (λ phase. ap (λ ps. all_on (map is_clear ps)) (sym c.as_slice.ensures.value)
-    ∙ c.is_over.ensures.no c.if-not-is_over.true phase))
+    let ends = sym c.if-not-ends_sync.ensures in (
+      c.self.invariant.0,
+      answered-machine k _ p _ _ at keeps held machine awaits (sync-gone c.index_mut.result.now.session c.take-result.new.self.session m _ c.take-result.ensures.taken ends)
+          (λ phase. ap (λ ps. all_on (map is_clear ps)) (sym c.as_slice.ensures.value)
+          ∙ c.is_over.ensures.no c.if-not-is_over.true phase),
+    )
 
 pub returns-then-not-is_over-clause-took : goal.returns-then-not-is_over-clause-took
 returns-then-not-is_over-clause-took g c =
@@ -100,9 +102,10 @@ invariant_of-self-2 g c =
     let keeps = c.take-result.ensures.keeps in
     let held = ap (λ x. x.held) is in
     let over = c.is_over.ensures.yes c.if-not-is_over.false in
-    let all = ap (λ ps. all_on (map is_clear ps)) (sym c.as_slice.ensures.value) ∙ over.1 in
-    (c.self.invariant.0,
-    over-machine k _ p _ _ _ at keeps held machine awaits over.0 all c.phase_after-self-inside.ensures)
+    let all = ap (λ ps. all_on (map is_clear ps)) (sym c.as_slice.ensures.value) ∙ over.1 in (
+      c.self.invariant.0,
+      over-machine k _ p _ _ _ at keeps held machine awaits over.0 all c.phase_after-self-inside.ensures,
+    )
 
 pub returns-clause-took : goal.returns-clause-took
 returns-clause-took g c =
