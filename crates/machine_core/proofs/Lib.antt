@@ -1,0 +1,13 @@
+mod EnabledBytes
+mod Holding
+mod Scanning
+mod Frames
+mod Greeting
+mod Syncing
+mod Working
+mod Fresh
+mod Gathering
+mod Hearing
+mod Awaiting
+mod Taken
+mod Keeping

@@ -1,0 +1,4 @@
+pub mod Firsts
+pub mod Ports
+pub mod Services
+pub mod Machines
