@@ -126,8 +126,8 @@ pub record IsPortIn (phase : Phase) (i : ℕ) (q : PortEnd) : Type 0 where
 abbrev pub ArePortsIn : Phase → List PortEnd → Type 0
 ArePortsIn phase qs = (i : ℕ) (q : PortEnd) → slice_get qs i ≡ Some q → IsPortIn phase i q
 
--- What a phase says of the whole end: the port that it names is there, the master has issued an access exactly while its
--- answer is awaited, and a boundary ends as soon as every port has answered and nothing is held.
+-- What a phase says of the whole end: the port that it names is there, the master has issued an access exactly while
+-- its answer is awaited, and a boundary ends as soon as every port has answered and nothing is held.
 abbrev pub IsIn : {M : Type 0} → MasterModel M → MachineEnd M Cause → Phase → Type 0
 IsIn k h (Greet p) = (p < length h.ports) × (k.issued h.master ≡ None) × (h.marked ≡ false)
 IsIn k h (Meet p) = (p < length h.ports) × (k.issued h.master ≡ None) × (h.marked ≡ false)

@@ -16,9 +16,6 @@ use rp_session::{Caps, Session};
 use std::alloc::Global;
 use std::marker::Model;
 
-/// The bytes of the longest hello of an end.
-const HELLO: usize = 44;
-
 const ALL: Caps = Caps {
     base: true,
     enables: true,
