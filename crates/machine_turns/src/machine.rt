@@ -1,0 +1,166 @@
+// A machine end with the bytes that it received.
+ghost use Rattle.std.specs.Prelude.{◌≡◌, ◌<◌, ◌≤◌, Some, None, IfOk, OnOk, OnErr};
+
+use crate::fault::{PortFault, TurnFault};
+use cos_api::{Calls, Master};
+use cos_base::{NoMemory, Octets};
+use cosim_model::Plan;
+use ends_model::Turn;
+use machine_core::{HearFault, MOST_SENT, MachineCore};
+use rp_framing::{FrameFault, Framer};
+use rp_packet::Packet;
+use rp_session::EndFault;
+use std::alloc::Global;
+use std::marker::Model;
+
+/// A machine end: a master, its side of each port's session, and the bytes that it received.
+#[derive(Drop)]
+pub struct MachineEnd<M: Master> {
+    core: MachineCore<M>,
+    // by port
+    framers: Vec<Framer>,
+    fault: Option<PortFault>,
+}
+
+impl<M: Master> Model for MachineEnd<M> {
+    ghost use Rattle.std.specs.Prelude.{◌≡◌, None, All, map};
+    ghost use Rattle.machine_turns.specs.Ends.{End, IsOpen, received};
+
+    ghost Value = { End M };
+
+    ghost view = { λ e. record { clear = e.core.end; kept = e.fault; ports = map received e.framers.items } };
+
+    ghost invariant = { λ e. All IsOpen e.framers.items × (e.core.end.fault ≡ None) };
+}
+
+impl<M: Master> MachineEnd<M> {
+    ghost use Rattle.std.specs.Prelude.{slice_get, length};
+    ghost use Rattle.cosim_model.specs.Packets.Decoded.{Valid};
+    ghost use Rattle.ends_model.specs.MachineTurn.{machine_acts};
+    ghost use Rattle.rp_packet.specs.Refusals.{first};
+    ghost use Rattle.rp_packet.specs.Values.{value_of};
+    ghost use Rattle.device_core.specs.Cores.{IsRead};
+    ghost use Rattle.machine_core.specs.Machines.{awaited};
+    ghost use Rattle.machine_turns.specs.Ends.{Turns, fed_at, held_at};
+
+    /// The master.
+    pub fn master(&self) -> &M
+        ensures { result.now ≡ self.now.clear.master }
+    {
+        self.core.master()
+    }
+
+    /// The calls so far.
+    pub fn calls(&self) -> &Calls
+        ensures { result.now.calls ≡ self.now.clear.calls }
+    {
+        self.core.calls()
+    }
+
+    /// Receives bytes of a port. Those of a port that isn't there, and those that come after a fault, are dropped.
+    pub fn feed(&mut self, port: u32, bytes: &[u8]) -> Result<(), NoMemory>
+        ensures ok { OnOk result (self.new ≡ fed_at self.old.kept port bytes.now self.old) }
+        ensures err { OnErr result (self.new ≡ self.old) }
+    {
+        let at = port as usize;
+        if self.fault.is_some() || at >= self.framers.len() {
+            return Ok(());
+        }
+        self.framers[at].feed(bytes)
+    }
+
+    /// Takes one turn, and appends what it sends to `out`; the answer names its port. Where a packet of a port is awaited and none is
+    /// whole it answers `NotYet` and does nothing. A fault is kept: each later call answers it and does nothing. Want of memory leaves
+    /// end and output as they were.
+    pub fn turn(&mut self, out: &mut Octets) -> Result<Turn, TurnFault>
+        ensures turns { Turns M.model self.old self.new out.old.bytes out.new.bytes result }
+    {
+        if let Some(fault) = self.fault {
+            return Err(TurnFault::Port(fault));
+        }
+        match self.core.awaits() {
+            Some(port) => self.hear_front(port, out),
+            None => self.act(out),
+        }
+    }
+
+    /// A turn that takes no packet. All room that it can need is made first.
+    fn act(&mut self, out: &mut Octets) -> Result<Turn, TurnFault>
+        requires kept { self.old.kept ≡ None }
+        requires acts { awaited (machine_acts M.model self.old.clear) ≡ None }
+        ensures { Turns M.model self.old self.new out.old.bytes out.new.bytes result }
+    {
+        match out.reserve(MOST_SENT) {
+            Ok(()) => {}
+            Err(NoMemory) => return Err(TurnFault::NoMemory),
+        }
+        match self.core.reserve_calls() {
+            Ok(()) => {}
+            Err(NoMemory) => return Err(TurnFault::NoMemory),
+        }
+        match self.core.act(out) {
+            Ok(turn) => Ok(turn),
+            Err(NoMemory) => Err(TurnFault::NoMemory),
+        }
+    }
+
+    /// A turn that takes the packet at the front of a port's bytes, if one is whole.
+    fn hear_front(&mut self, port: u32, out: &mut Octets) -> Result<Turn, TurnFault>
+        requires kept { self.old.kept ≡ None }
+        requires awaited { awaited (machine_acts M.model self.old.clear) ≡ Some port }
+        ensures { Turns M.model self.old self.new out.old.bytes out.new.bytes result }
+    {
+        let at = port as usize;
+        if at >= self.framers.len() {
+            return Ok(Turn::NotYet { port });
+        }
+        match self.framers[at].front() {
+            Ok(None) => Ok(Turn::NotYet { port }),
+            Ok(Some((packet, size))) => self.hear(port, packet, size, out),
+            Err(FrameFault::Malformed(fault)) => {
+                let fault = PortFault {
+                    port,
+                    fault: EndFault::Malformed(fault),
+                };
+                self.fault = Some(fault);
+                Err(TurnFault::Port(fault))
+            }
+            Err(FrameFault::NoMemory) => Err(TurnFault::NoMemory),
+        }
+    }
+
+    /// Takes a packet that stands at the front of a port's bytes. All room that it can need is made first.
+    fn hear(
+        &mut self,
+        port: u32,
+        packet: Packet,
+        size: usize,
+        out: &mut Octets,
+    ) -> Result<Turn, TurnFault>
+        requires kept { self.old.kept ≡ None }
+        requires awaited { awaited (machine_acts M.model self.old.clear) ≡ Some port }
+        requires there { port < length self.old.ports }
+        requires front { first (held_at self.old port) ≡ Some (Valid (value_of packet), size) }
+        requires within { size ≤ length (held_at self.old port) }
+        requires read { IsRead (value_of packet) }
+        ensures { Turns M.model self.old self.new out.old.bytes out.new.bytes result }
+    {
+        let _room = out.spare();
+        match self.core.reserve_calls() {
+            Ok(()) => {}
+            Err(NoMemory) => return Err(TurnFault::NoMemory),
+        }
+        let fault = match self.core.hear(port, packet) {
+            Ok(()) => {
+                let at = port as usize;
+                self.framers[at].skip(size);
+                return Ok(Turn::Took { port });
+            }
+            Err(HearFault::Session(fault)) => EndFault::Session(fault),
+            Err(HearFault::LateWant { at, got }) => EndFault::LateWant { at, got },
+        };
+        let fault = PortFault { port, fault };
+        self.fault = Some(fault);
+        Err(TurnFault::Port(fault))
+    }
+}
