@@ -1,20 +1,25 @@
 -- What contracts see of a machine end with the bytes that it received: its core, the fault that it keeps, and by port
 -- the bytes that it did not take yet; and what a call of its turn does.
 use Rattle.std.specs.Prelude.{◌≡◌, ℕ, ◌+◌, ◌≤◌, List, [], ◌++◌, length, drop, get_or, Option, Some, None, option_map, Result, Ok, Err}
-use Rattle.std.specs.Prelude.{set, slice_get}
+use Rattle.std.specs.Prelude.{set, slice_get, replicate, Bool, true, false}
 use Rattle.process_network.specs.PacketStar.{Ends, HubEnd, hub_turn_by, fresh_hub}
 use Rattle.process_network.specs.PacketStar.LeafOutlook.{LeafHalts}
 use Rattle.cosim_model.specs.declared.session.EndFault.{EndFault}
+use Rattle.cosim_model.specs.declared.session.EndFault.TheVariants as end_fault
 use Rattle.cosim_model.specs.Packets.{Decoded, Codec, spell}
 use Rattle.cosim_model.specs.Parts.{MasterModel}
 use Rattle.ends_model.specs.declared.ends.Turn.{Turn}
+use Rattle.ends_model.specs.declared.ends.Turn.TheVariants as turn
 use Rattle.ends_model.specs.Answers.{machine_answer}
 use Rattle.ends_model.specs.MachineTurn.{MachineEnd, machine_outlook, machine_takes}
 use Rattle.rp_framing.specs.Framing.{Frames, counted}
 use Rattle.rp_packet.specs.declared.fault.Cause.{Cause}
+use Rattle.rp_packet.specs.declared.fault.PacketFault.{PacketFault}
 use Rattle.rp_packet.specs.Refusals.{first}
 use Rattle.rp_packet.specs.Streams.{packet_codec}
 use Rattle.device_turns.specs.Ends.{cause_of}
+use Rattle.machine_core.specs.declared.fault.HearFault.{HearFault}
+use Rattle.machine_core.specs.declared.fault.HearFault.TheVariants as hear
 use Rattle.machine_turns.specs.declared.fault.PortFault.{PortFault}
 use Rattle.machine_turns.specs.declared.fault.TurnFault.{TurnFault}
 use Rattle.machine_turns.specs.declared.fault.TurnFault.TheVariants as turn_fault
@@ -36,6 +41,15 @@ pub record End (M : Type 0) : Type 0 where
   pub clear : MachineEnd M Cause
   pub kept : Option PortFault
   pub ports : List Received
+
+-- why a packet is not taken, as a fault of the end
+abbrev pub heard_fault : HearFault → EndFault PacketFault
+heard_fault (hear.Session f) = end_fault.Session f
+heard_fault (hear.LateWant at got) = end_fault.LateWant at got
+
+-- an end that has taken no turn and received nothing, with so many ports
+abbrev pub fresh : {M : Type 0} → MachineEnd M Cause → ℕ → End M
+fresh start n = record { clear = start; kept = None; ports = replicate n (record { taken = 0; held = [] }) }
 
 -- a fault as the definitions have it: without the place of a malformed packet
 abbrev pub port_cause : PortFault → ℕ × EndFault Cause
@@ -74,6 +88,11 @@ turn_of k e =
 -- what a turn answers, by the packets that the held bytes begin with
 abbrev pub answer_of : {M : Type 0} → MasterModel M → End M → Option (Result Turn (ℕ × EndFault Cause))
 answer_of k e = machine_answer k (core_of e) (λ p. option_map (λ r. r.0) (first (held_at e p)))
+
+-- whether a call of turn would answer otherwise than NotYet
+abbrev pub moves : {E : Type 0} → Option (Result Turn E) → Bool
+moves (Some (Ok (turn.NotYet p))) = false
+moves _ = true
 
 -- the bytes that a turn sends, whose port its answer names
 abbrev pub sent_by : Option (ℕ × List ℕ) → List ℕ

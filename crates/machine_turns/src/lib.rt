@@ -2,6 +2,7 @@
 #![tactic(auto)]
 
 mod fault;
+mod framers;
 mod machine;
 
 pub use ends_model::Turn;

@@ -1,12 +1,13 @@
 // A machine end with the bytes that it received.
-ghost use Rattle.std.specs.Prelude.{◌≡◌, ◌<◌, ◌≤◌, Some, None, IfOk, OnOk, OnErr};
+ghost use Rattle.std.specs.Prelude.{◌≡◌, ◌↔◌, ◌<◌, ◌≤◌, true, Some, None, IfOk, OnOk, OnErr};
 
-use crate::fault::{PortFault, TurnFault};
+use crate::fault::{PortFault, TurnFault, end_fault};
+use crate::framers::fresh_framers;
 use cos_api::{Calls, Master};
 use cos_base::{NoMemory, Octets};
 use cosim_model::Plan;
 use ends_model::Turn;
-use machine_core::{HearFault, MOST_SENT, MachineCore};
+use machine_core::{MOST_SENT, MachineCore};
 use rp_framing::{FrameFault, Framer};
 use rp_packet::Packet;
 use rp_session::EndFault;
@@ -23,25 +24,49 @@ pub struct MachineEnd<M: Master> {
 }
 
 impl<M: Master> Model for MachineEnd<M> {
-    ghost use Rattle.std.specs.Prelude.{◌≡◌, None, All, map};
+    ghost use Rattle.std.specs.Prelude.{◌≡◌, None, All, length, map};
     ghost use Rattle.machine_turns.specs.Ends.{End, IsOpen, received};
 
     ghost Value = { End M };
 
     ghost view = { λ e. record { clear = e.core.end; kept = e.fault; ports = map received e.framers.items } };
 
-    ghost invariant = { λ e. All IsOpen e.framers.items × (e.core.end.fault ≡ None) };
+    ghost invariant = { λ e. All IsOpen e.framers.items × (e.core.end.fault ≡ None) × (length e.framers.items ≡ length e.core.end.ports) };
 }
 
 impl<M: Master> MachineEnd<M> {
-    ghost use Rattle.std.specs.Prelude.{slice_get, length};
+    ghost use Rattle.std.specs.Prelude.{is_some, length};
     ghost use Rattle.cosim_model.specs.Packets.Decoded.{Valid};
+    ghost use Rattle.ends_model.specs.declared.ends.Phase.TheVariants as Phase;
     ghost use Rattle.ends_model.specs.MachineTurn.{machine_acts};
+    ghost use Rattle.ends_model.specs.World.{machine_start};
+    ghost use Rattle.rp_packet.specs.declared.fault.Cause.{Cause};
     ghost use Rattle.rp_packet.specs.Refusals.{first};
     ghost use Rattle.rp_packet.specs.Values.{value_of};
     ghost use Rattle.device_core.specs.Cores.{IsRead};
     ghost use Rattle.machine_core.specs.Machines.{awaited};
-    ghost use Rattle.machine_turns.specs.Ends.{Turns, fed_at, held_at};
+    ghost use Rattle.machine_turns.specs.Ends.{Turns, answer_of, fed_at, fresh, held_at, moves};
+
+    /// An end that has taken no turn and received nothing, with so many ports. It offers all capabilities, and needs none.
+    pub fn make(
+        alloc: Global,
+        master: M,
+        ports: u32,
+        plan: Plan,
+    ) -> Result<MachineEnd<M>, NoMemory>
+        requires free { M.model.issued master ≡ None }
+        requires reach { M.model.reach master ≤ ports }
+        requires quantum { 0 < plan.quantum }
+        ensures { IfOk result (λ e. e ≡ fresh (machine_start Cause master ports plan) ports) }
+    {
+        let core = MachineCore::make(alloc, master, ports, plan)?;
+        let framers = fresh_framers(alloc, ports)?;
+        Ok(MachineEnd {
+            core,
+            framers,
+            fault: None,
+        })
+    }
 
     /// The master.
     pub fn master(&self) -> &M
@@ -57,6 +82,20 @@ impl<M: Master> MachineEnd<M> {
         self.core.calls()
     }
 
+    /// How many units are done.
+    pub fn ticks(&self) -> u64
+        ensures { result ≡ self.now.clear.tick }
+    {
+        self.core.ticks()
+    }
+
+    /// Whether all is done.
+    pub fn is_done(&self) -> bool
+        ensures { (result ≡ true) ↔ (self.now.clear.phase ≡ Phase.Done) }
+    {
+        self.core.is_done()
+    }
+
     /// Receives bytes of a port. Those of a port that isn't there, and those that come after a fault, are dropped.
     pub fn feed(&mut self, port: u32, bytes: &[u8]) -> Result<(), NoMemory>
         ensures ok { OnOk result (self.new ≡ fed_at self.old.kept port bytes.now self.old) }
@@ -67,6 +106,27 @@ impl<M: Master> MachineEnd<M> {
             return Ok(());
         }
         self.framers[at].feed(bytes)
+    }
+
+    /// Whether `turn` would answer otherwise than `NotYet`. It takes no memory.
+    pub fn ready(&self) -> bool
+        ensures { result ≡ moves (answer_of M.model self.now) }
+    {
+        if self.fault.is_some() {
+            return true;
+        }
+        match self.core.awaits() {
+            Some(port) => self.is_whole(port),
+            None => true,
+        }
+    }
+
+    /// Whether a packet stands whole at the front of a port's bytes, or a fault.
+    fn is_whole(&self, port: u32) -> bool
+        ensures { result ≡ is_some (first (held_at self.now port)) }
+    {
+        let at = port as usize;
+        at < self.framers.len() && self.framers[at].ready()
     }
 
     /// Takes one turn, and appends what it sends to `out`; the answer names its port. Where a packet of a port is awaited and none is
@@ -98,10 +158,11 @@ impl<M: Master> MachineEnd<M> {
             Ok(()) => {}
             Err(NoMemory) => return Err(TurnFault::NoMemory),
         }
-        match self.core.act(out) {
-            Ok(turn) => Ok(turn),
-            Err(NoMemory) => Err(TurnFault::NoMemory),
-        }
+        let turn = match self.core.act(out) {
+            Ok(turn) => turn,
+            Err(NoMemory) => return Err(TurnFault::NoMemory),
+        };
+        Ok(turn)
     }
 
     /// A turn that takes the packet at the front of a port's bytes, if one is whole.
@@ -150,17 +211,20 @@ impl<M: Master> MachineEnd<M> {
             Ok(()) => {}
             Err(NoMemory) => return Err(TurnFault::NoMemory),
         }
-        let fault = match self.core.hear(port, packet) {
+        match self.core.hear(port, packet) {
             Ok(()) => {
                 let at = port as usize;
                 self.framers[at].skip(size);
-                return Ok(Turn::Took { port });
+                Ok(Turn::Took { port })
             }
-            Err(HearFault::Session(fault)) => EndFault::Session(fault),
-            Err(HearFault::LateWant { at, got }) => EndFault::LateWant { at, got },
-        };
-        let fault = PortFault { port, fault };
-        self.fault = Some(fault);
-        Err(TurnFault::Port(fault))
+            Err(fault) => {
+                let fault = PortFault {
+                    port,
+                    fault: end_fault(fault),
+                };
+                self.fault = Some(fault);
+                Err(TurnFault::Port(fault))
+            }
+        }
     }
 }
