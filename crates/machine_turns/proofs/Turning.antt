@@ -23,7 +23,11 @@ use Rattle.machine_core.specs.Machines.{Core, Becomes, Does, awaited}
 use Rattle.machine_core.specs.declared.fault.HearFault.{HearFault}
 use Rattle.machine_core.specs.declared.fault.HearFault.TheVariants as hear
 use Rattle.machine_turns.specs.declared.fault.PortFault.{PortFault}
-use Rattle.machine_turns.specs.Ends.{End, Goes, Holds, IsOpen, IsTurn, Received, answer_of, core_of, fed_at, heard_fault, held_at, machine_alone, more, moves, port_cause, put, received, sent_by, taken_of, turn_of}
+use Rattle.machine_turns.specs.Ends.{End, Goes, Holds, IsOpen, IsTurn, Received, answer_of, core_of, fed_at, fresh, heard_fault, held_at, machine_alone, more, moves, port_cause, put, received, sent_by, taken_of, turn_of}
+
+-- an end by what it is made of
+abbrev pub made : {M : Type 0} → MachineEnd M Cause → Option PortFault → List Frames → End M
+made clear kept fs = record { clear = clear; kept = kept; ports = map received fs }
 
 -- Counts of bytes stand at most at their last value.
 abbrev pub Counted : List Received → Type 0
@@ -129,7 +133,7 @@ module _ {M : Type 0} (k : MasterModel M) where
   clear-core e kept clear =
       ap (λ (f : Option PortFault). record e.clear { fault = option_map port_cause f }) kept ∙ sym (unfaulty e.clear clear)
 
-  acts-at : (e : End M) (a : Act M Cause) → e.kept ≡ None → e.clear.fault ≡ None → machine_acts k e.clear ≡ a
+  pub acts-at : (e : End M) (a : Act M Cause) → e.kept ≡ None → e.clear.fault ≡ None → machine_acts k e.clear ≡ a
       → machine_acts k (core_of e) ≡ a
   acts-at e a kept clear is = ap (machine_acts k) (clear-core e kept clear) ∙ is
 
@@ -251,7 +255,8 @@ module _ {M : Type 0} (k : MasterModel M) where
       let takes = takes-at e p (Valid m) kept clear in
       let fault = ap (λ (c : MachineEnd M Cause). c.fault) (sym takes ∙ sym core) ∙ new_clear in
       let n = length e.ports in
-      let size_is : size ≡ get_or (replicate n 0) p 0 + size = ap (λ z. z + size) (sym (zeros n p)) in
+      let none_taken = zeros n p in
+      let size_is : size ≡ get_or (replicate n 0) p 0 + size = omega (arith, none_taken) in
       waited e new p (Some (Valid m, size)) bytes bytes (Ok (turn.Took p)) None kept clear awaits front
       (ap (unless_faulty (turn.Took p)) fault) new_kept (
         clear-core new new_kept new_clear ∙ core ∙ takes,
@@ -276,7 +281,7 @@ module _ {M : Type 0} (k : MasterModel M) where
         sym (append-nil bytes),
       )
 
-  pub refused : (e new : End M) (p size : ℕ) (m : Packet) (f : HearFault) (bytes : List ℕ) → e.kept ≡ None
+  refused : (e new : End M) (p size : ℕ) (m : Packet) (f : HearFault) (bytes : List ℕ) → e.kept ≡ None
       → e.clear.fault ≡ None → awaited (machine_acts k e.clear) ≡ Some p → first (held_at e p) ≡ Some (Valid m, size)
       → new.kept ≡ Some (record { port = p; fault = heard_fault f })
       → Becomes (machine_takes k e.clear p (Valid m)) new.clear p (Err f)
@@ -286,6 +291,19 @@ module _ {M : Type 0} (k : MasterModel M) where
       faulted e new p size (Valid m) _ bytes kept clear awaits front new_kept core
   refused e new p size m (hear.LateWant at got) bytes kept clear awaits front new_kept core =
       faulted e new p size (Valid m) _ bytes kept clear awaits front new_kept core
+
+  -- the same, of a fault that was made of it
+  pub refused-as : (e : End M) (clear : MachineEnd M Cause) (fs : List Frames) (p size : ℕ) (m : Packet) (f : HearFault)
+      (x : EndFault PacketFault) (bytes : List ℕ) → e.kept ≡ None → e.clear.fault ≡ None
+      → awaited (machine_acts k e.clear) ≡ Some p → first (held_at e p) ≡ Some (Valid m, size) → x ≡ heard_fault f
+      → Becomes (machine_takes k e.clear p (Valid m)) clear p (Err f)
+      → IsTurn k e (made clear (Some (record { port = p; fault = x })) fs) bytes bytes
+      (Err (port_cause (record { port = p; fault = x }))) (Some (record { port = p; fault = x }))
+  refused-as e clear fs p size m f x bytes kept core_clear awaits front is core =
+      subst (λ (y : EndFault PacketFault). IsTurn k e (made clear (Some (record { port = p; fault = y })) fs) bytes bytes
+      (Err (port_cause (record { port = p; fault = y }))) (Some (record { port = p; fault = y }))) (sym is)
+      (refused e (made clear (Some (record { port = p; fault = heard_fault f })) fs) p size m f bytes kept core_clear awaits
+      front refl core)
 
   pub malformed : (e new : End M) (p size : ℕ) (f : PacketFault) (bytes : List ℕ) → e.kept ≡ None
       → e.clear.fault ≡ None → awaited (machine_acts k e.clear) ≡ Some p
@@ -321,3 +339,14 @@ module _ {M : Type 0} (k : MasterModel M) where
       ap (λ a. moves (answer_by k (core_of e) (λ p. option_map (λ r. r.0) (first (held_at e p))) a))
       (acts-at e (Awaits p) kept clear (awaited-is (machine_acts k e.clear) p awaits))
       ∙ moves-whole (core_of e) p (first (held_at e p))
+
+-- a fresh end
+map-same : (n : ℕ) (f : Frames) → map received (replicate n f) ≡ replicate n (received f)
+map-same zero f = refl
+map-same (suc n) f = ap (λ rs. received f ∷ rs) (map-same n f)
+
+pub made-fresh : {M : Type 0} (clear start : MachineEnd M Cause) (fs : List Frames) (n : ℕ) → clear ≡ start
+    → fs ≡ replicate n (record { held = []; taken = 0; room = 0; kept = None }) → made clear None fs ≡ fresh start n
+made-fresh clear start fs n core frames =
+    ap (λ c. made c None fs) core ∙ ap (made start None) frames
+    ∙ ap (λ rs. record { clear = start; kept = None; ports = rs }) (map-same n (record { held = []; taken = 0; room = 0; kept = None }))

@@ -3,7 +3,7 @@ use Rattle.ends_model.specs.MachineTurn.{machine_acts}
 use Rattle.machine_core.specs.Machines.{Does, awaited}
 use Rattle.machine_turns.specs.Ends.{IsTurn, received}
 use Rattle.machine_turns.proofs.Ports.{acts-size}
-use Rattle.machine_turns.proofs.Turning.{acted, acts-at, all-counted, of-same}
+use Rattle.machine_turns.proofs.Turning.{acted, made, acts-at, all-counted, of-same}
 use Rattle.machine_turns.proofs.machine.MachineEnd.act.Goals as goal
 
 pub invariant_of-self-2 : goal.invariant_of-self-2
@@ -18,8 +18,8 @@ pub returns : goal.returns
 returns g c =
     let i = c.self.inside in
     let k = g.M.Master.model in
-    let e = record { clear = i.core.end; kept = i.fault; ports = map received i.framers.items } in
-    let new = record { clear = c.act.new.self.end; kept = i.fault; ports = map received i.framers.items } in
+    let e = made i.core.end i.fault i.framers.items in
+    let new = made c.act.new.self.end i.fault i.framers.items in
     let o = c.reserve_calls.new.self in
     let n = c.act.new.self in
     let after = c.act.new.out.bytes in

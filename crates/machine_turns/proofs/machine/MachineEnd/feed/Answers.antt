@@ -1,5 +1,6 @@
-use Rattle.std.proofs.Common.{refl, sym, ap, ◌∙◌, ◌≡◌, ◌<◌, subst, arith, length, map, set}
+use Rattle.std.proofs.Common.{refl, sym, ap, ◌∙◌, ◌≡◌, ◌<◌, subst, arith, length, map, set, None}
 use Rattle.std.proofs.lemmas.Option.{slice_get_read}
+use Rattle.rp_framing.specs.Framing.{Frames}
 use Rattle.machine_turns.specs.Ends.{End, fed_at, received}
 use Rattle.machine_turns.proofs.Turning.{fed-end, none-of, on-ok}
 use Rattle.machine_turns.proofs.machine.MachineEnd.feed.Goals as goal
@@ -12,7 +13,7 @@ returns-clause-ok g c =
     let kept = none-of i.fault (cc (c.is_some.ensures, c.if-is_some.false)) in
     let within : p < length fs = omega (arith, i.framers.ok.0) in
     let at = slice_get_read fs (length fs) p c.index_mut.result.now refl within c.index_mut.ensures.value in
-    let f_kept = subst (λ f. f.kept ≡ _) (sym c.index_mut.ensures.value) (c.self.invariant.0 p c.index_mut.result.now within).0 in
+    let f_kept = subst (λ (f : Frames). f.kept ≡ None) (sym c.index_mut.ensures.value) (c.self.invariant.0 p c.index_mut.result.now within).0 in
     on-ok c.feed.result
     (λ feeds. subst (λ e. ◌≡◌ {A = End _} (record {
       clear = i.core.end;
