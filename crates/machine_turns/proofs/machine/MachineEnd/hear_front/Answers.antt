@@ -74,7 +74,7 @@ returns-in-Err-Malformed g c =
     let front = rw c.in-Err-Malformed.field-0-is at c.in-Err-Malformed.ensures.front in
     of-same k _ _ _ _ _ _ _ c.self.view_is
     (malformed k (made i.core.end i.fault fs)
-    (made i.core.end (Some (record { port = p; fault = fault.Malformed c.in-Err-Malformed.fault })) fs) p front.1.0
+    (made i.core.end (Some (record { port = p; fault = fault.Malformed c.in-Err-Malformed.fault })) fs) p front.1
     c.in-Err-Malformed.fault c.args.out.now.bytes (ap (λ e. e.kept) c.self.view_is ∙ c.requires.kept) c.self.invariant.1
     (ap (λ e. awaited (machine_acts k e.clear)) c.self.view_is ∙ c.requires.awaited)
-    (ap (λ o. first (held_of o)) (held-there fs p _ at) ∙ front.1.1) there refl refl)
+    (ap (λ o. first (held_of o)) (held-there fs p _ at) ∙ front.2) there refl refl)
