@@ -1,5 +1,5 @@
 -- No turn changes the number of ports.
-use Rattle.std.proofs.Common.{◌≡◌, ℕ, suc, ◌<◌, Bool, true, false, List, [], ◌∷◌, length, map, set, nat_lt, refl, ap, sym, ◌∙◌, Result, Ok, Err}
+use Rattle.std.proofs.Common.{◌≡◌, ℕ, suc, Bool, true, false, List, [], ◌∷◌, length, map, nat_lt, refl, ap, ◌∙◌, Result, Ok, Err}
 use Rattle.std.specs.Prelude.{Option, Some, None, slice_get}
 use Rattle.std.proofs.lemmas.List.{length-set, length-map}
 use Rattle.cosim_model.specs.declared.session.EndFault.{EndFault}
@@ -19,7 +19,7 @@ use Rattle.ends_model.specs.MachineTurn.Act.{Works, Sends, Awaits, Serves, Marks
 use Rattle.rp_packet.specs.declared.fault.Cause.{Cause}
 use Rattle.cos_base.specs.declared.no_memory.NoMemory.{NoMemory}
 use Rattle.ends_model.specs.declared.ends.Turn.{Turn}
-use Rattle.machine_core.specs.Machines.{Acts, ActsBy, Becomes, Core, Does, Hears}
+use Rattle.machine_core.specs.Machines.{Acts, Core, Does, Hears}
 use Rattle.machine_core.specs.declared.fault.HearFault.{HearFault}
 use Rattle.machine_core.specs.declared.fault.HearFault.TheVariants as hear
 

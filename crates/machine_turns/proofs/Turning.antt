@@ -1,9 +1,9 @@
 -- What each kind of turn leaves is what the definitions say.
-use Rattle.std.proofs.Common.{◌≡◌, ℕ, zero, suc, ◌+◌, ◌<◌, ◌≤◌, Bool, true, false, List, [], ◌∷◌, ◌++◌, length, drop, get_or, map, set, replicate, All, refl, sym, ap, ◌∙◌, subst, arith, Result, Ok, Err}
+use Rattle.std.proofs.Common.{◌≡◌, ℕ, zero, suc, ◌+◌, ◌<◌, ◌≤◌, true, false, List, [], ◌∷◌, ◌++◌, length, drop, get_or, map, set, replicate, All, refl, sym, ap, ◌∙◌, subst, arith, Result, Ok, Err}
 use Rattle.std.specs.Prelude.{Option, Some, None, is_some, option_map, slice_get, OnOk}
 use Rattle.std.proofs.lemmas.List.{append-nil, map-set}
 use Rattle.std.proofs.lemmas.Option.{slice_get-map, slice_get_within, get_or_from_slice_get, none-some, same_Some}
-use Rattle.process_network.specs.PacketStar.{HubEnd, HubOutlook, hub_after_take, hub_turn_by, fresh_hub}
+use Rattle.process_network.specs.PacketStar.{HubEnd, hub_after_take, hub_turn_by, fresh_hub}
 use Rattle.cosim_model.specs.declared.session.EndFault.{EndFault}
 use Rattle.cosim_model.specs.declared.session.EndFault.TheVariants as fault
 use Rattle.cosim_model.specs.Parts.{MasterModel}
@@ -12,7 +12,7 @@ use Rattle.cosim_model.specs.Packets.Decoded.{Valid, Malformed}
 use Rattle.ends_model.specs.declared.ends.Turn.{Turn}
 use Rattle.ends_model.specs.declared.ends.Turn.TheVariants as turn
 use Rattle.ends_model.specs.Answers.{answer_by, take_answer, unless_faulty}
-use Rattle.ends_model.specs.MachineTurn.{Act, MachineEnd, PortEnd, machine_acts, machine_hears_at, machine_takes, outlook_of}
+use Rattle.ends_model.specs.MachineTurn.{Act, MachineEnd, machine_acts, machine_hears_at, machine_takes, outlook_of}
 use Rattle.ends_model.specs.MachineTurn.Act.{Works, Sends, Awaits, Serves, Marks, Rests, Fails, Lost}
 use Rattle.rp_packet.specs.declared.fault.Cause.{Cause}
 use Rattle.rp_packet.specs.declared.fault.PacketFault.{PacketFault}
@@ -23,7 +23,7 @@ use Rattle.machine_core.specs.Machines.{Core, Becomes, Does, awaited}
 use Rattle.machine_core.specs.declared.fault.HearFault.{HearFault}
 use Rattle.machine_core.specs.declared.fault.HearFault.TheVariants as hear
 use Rattle.machine_turns.specs.declared.fault.PortFault.{PortFault}
-use Rattle.machine_turns.specs.Ends.{End, Goes, Holds, IsOpen, IsTurn, Received, answer_of, core_of, fed_at, fresh, heard_fault, held_at, machine_alone, more, moves, port_cause, put, received, sent_by, taken_of, turn_of}
+use Rattle.machine_turns.specs.Ends.{End, Goes, Holds, IsOpen, IsTurn, Received, answer_of, core_of, fed_at, fresh, heard_fault, held_at, machine_alone, more, moves, port_cause, put, received, sent_by, taken_of}
 
 -- an end by what it is made of
 abbrev pub made : {M : Type 0} → MachineEnd M Cause → Option PortFault → List Frames → End M
@@ -109,9 +109,9 @@ fed-end {M} clear kept fs p f g bytes none there f_kept feeds =
     subst (λ k. ◌≡◌ {A = End M} (record { clear = clear; kept = k; ports = map received (set fs p g) })
     (fed_at k p bytes (record { clear = clear; kept = k; ports = map received fs }))) (sym none)
     (ap (λ rs. record { clear = clear; kept = None; ports = rs }) (map-set received fs p g
-        ∙ ap (set (map received fs) p) (fed-framer bytes f g f_kept feeds))
+    ∙ ap (set (map received fs) p) (fed-framer bytes f g f_kept feeds))
     ∙ ap (λ o. put (record { clear = clear; kept = None; ports = map received fs }) p (option_map (more bytes) o))
-        (sym (held-there fs p f there)))
+    (sym (held-there fs p f there)))
 
 pub on-ok : {A E P Q : Type 0} (r : Result A E) → (P → Q) → OnOk r P → OnOk r Q
 on-ok (Ok a) f is = f is

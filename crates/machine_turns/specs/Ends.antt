@@ -142,3 +142,15 @@ put e p (Some r) = record e { ports = set e.ports p r }
 abbrev pub fed_at : {M : Type 0} → Option PortFault → ℕ → List ℕ → End M → End M
 fed_at None p bytes e = put e p (option_map (more bytes) (slice_get e.ports p))
 fed_at (Some f) p bytes e = e
+
+-- the fault kept after another one of a port; want of memory is kept by none
+abbrev pub kept_after : Option PortFault → ℕ → EndFault PacketFault → Option PortFault
+kept_after kept p end_fault.NoMemory = kept
+kept_after kept p (end_fault.Malformed f) = Some (record { port = p; fault = end_fault.Malformed f })
+kept_after kept p (end_fault.Truncated start held) = Some (record { port = p; fault = end_fault.Truncated start held })
+kept_after kept p (end_fault.Session f) = Some (record { port = p; fault = end_fault.Session f })
+kept_after kept p (end_fault.Ended taken) = Some (record { port = p; fault = end_fault.Ended taken })
+kept_after kept p (end_fault.TooMuch taken) = Some (record { port = p; fault = end_fault.TooMuch taken })
+kept_after kept p (end_fault.Link count) = Some (record { port = p; fault = end_fault.Link count })
+kept_after kept p (end_fault.LateWant at got) = Some (record { port = p; fault = end_fault.LateWant at got })
+kept_after kept p (end_fault.Astray cmd) = Some (record { port = p; fault = end_fault.Astray cmd })

@@ -1,5 +1,5 @@
 // A machine end with the bytes that it received.
-ghost use Rattle.std.specs.Prelude.{◌≡◌, ◌↔◌, ◌<◌, ◌≤◌, true, Some, None, IfOk, OnOk, OnErr};
+ghost use Rattle.std.specs.Prelude.{ℕ, List, ◌≡◌, ◌↔◌, ◌<◌, ◌≤◌, true, Some, None, Err, IfOk, OnOk, OnErr};
 
 use crate::fault::{PortFault, TurnFault, end_fault};
 use crate::framers::fresh_framers;
@@ -45,15 +45,12 @@ impl<M: Master> MachineEnd<M> {
     ghost use Rattle.rp_packet.specs.Values.{value_of};
     ghost use Rattle.device_core.specs.Cores.{IsRead};
     ghost use Rattle.machine_core.specs.Machines.{awaited};
-    ghost use Rattle.machine_turns.specs.Ends.{Turns, answer_of, fed_at, fresh, held_at, moves};
+    ghost use Rattle.machine_turns.specs.declared.fault.PortFault.{PortFault};
+    ghost use Rattle.machine_turns.specs.declared.fault.TurnFault.TheVariants as turn_fault;
+    ghost use Rattle.machine_turns.specs.Ends.{Turns, answer_of, fed_at, fresh, held_at, kept_after, moves};
 
     /// An end that has taken no turn and received nothing, with so many ports. It offers all capabilities, and needs none.
-    pub fn make(
-        alloc: Global,
-        master: M,
-        ports: u32,
-        plan: Plan,
-    ) -> Result<MachineEnd<M>, NoMemory>
+    pub fn make(alloc: Global, master: M, ports: u32, plan: Plan) -> Result<MachineEnd<M>, NoMemory>
         requires free { M.model.issued master ≡ None }
         requires reach { M.model.reach master ≤ ports }
         requires quantum { 0 < plan.quantum }
@@ -108,6 +105,16 @@ impl<M: Master> MachineEnd<M> {
         self.framers[at].feed(bytes)
     }
 
+    /// Keeps a fault of a port, so that each later turn answers it. Want of memory isn't kept.
+    pub fn keep(&mut self, port: u32, fault: EndFault)
+        ensures { self.new ≡ record self.old { kept = kept_after self.old.kept port fault } }
+    {
+        match fault {
+            EndFault::NoMemory => {}
+            _ => self.fault = Some(PortFault { port, fault }),
+        }
+    }
+
     /// Whether `turn` would answer otherwise than `NotYet`. It takes no memory.
     pub fn ready(&self) -> bool
         ensures { result ≡ moves (answer_of M.model self.now) }
@@ -134,12 +141,13 @@ impl<M: Master> MachineEnd<M> {
     /// end and output as they were.
     pub fn turn(&mut self, out: &mut Octets) -> Result<Turn, TurnFault>
         ensures turns { Turns M.model self.old self.new out.old.bytes out.new.bytes result }
+        ensures kept { (f : PortFault) → self.old.kept ≡ Some f → result ≡ Err (turn_fault.Port f) }
     {
         if let Some(fault) = self.fault {
             return Err(TurnFault::Port(fault));
         }
         match self.core.awaits() {
-            Some(port) => self.hear_front(port, out),
+            Some(port) => self.hear_front(port),
             None => self.act(out),
         }
     }
@@ -165,11 +173,11 @@ impl<M: Master> MachineEnd<M> {
         Ok(turn)
     }
 
-    /// A turn that takes the packet at the front of a port's bytes, if one is whole.
-    fn hear_front(&mut self, port: u32, out: &mut Octets) -> Result<Turn, TurnFault>
+    /// A turn that takes the packet at the front of a port's bytes, if one is whole. It sends nothing.
+    fn hear_front(&mut self, port: u32) -> Result<Turn, TurnFault>
         requires kept { self.old.kept ≡ None }
         requires awaited { awaited (machine_acts M.model self.old.clear) ≡ Some port }
-        ensures { Turns M.model self.old self.new out.old.bytes out.new.bytes result }
+        ensures { (sent : List ℕ) → Turns M.model self.old self.new sent sent result }
     {
         let at = port as usize;
         if at >= self.framers.len() {
@@ -177,7 +185,7 @@ impl<M: Master> MachineEnd<M> {
         }
         match self.framers[at].front() {
             Ok(None) => Ok(Turn::NotYet { port }),
-            Ok(Some((packet, size))) => self.hear(port, packet, size, out),
+            Ok(Some((packet, size))) => self.hear(port, packet, size),
             Err(FrameFault::Malformed(fault)) => {
                 let fault = PortFault {
                     port,
@@ -190,23 +198,16 @@ impl<M: Master> MachineEnd<M> {
         }
     }
 
-    /// Takes a packet that stands at the front of a port's bytes. All room that it can need is made first.
-    fn hear(
-        &mut self,
-        port: u32,
-        packet: Packet,
-        size: usize,
-        out: &mut Octets,
-    ) -> Result<Turn, TurnFault>
+    /// Takes a packet that stands at the front of a port's bytes. Room for the call is made first.
+    fn hear(&mut self, port: u32, packet: Packet, size: usize) -> Result<Turn, TurnFault>
         requires kept { self.old.kept ≡ None }
         requires awaited { awaited (machine_acts M.model self.old.clear) ≡ Some port }
         requires there { port < length self.old.ports }
         requires front { first (held_at self.old port) ≡ Some (Valid (value_of packet), size) }
         requires within { size ≤ length (held_at self.old port) }
         requires read { IsRead (value_of packet) }
-        ensures { Turns M.model self.old self.new out.old.bytes out.new.bytes result }
+        ensures { (sent : List ℕ) → Turns M.model self.old self.new sent sent result }
     {
-        let _room = out.spare();
         match self.core.reserve_calls() {
             Ok(()) => {}
             Err(NoMemory) => return Err(TurnFault::NoMemory),

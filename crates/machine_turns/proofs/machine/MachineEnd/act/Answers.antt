@@ -1,7 +1,6 @@
-use Rattle.std.proofs.Common.{refl, sym, ap, ◌∙◌, subst, length, map}
+use Rattle.std.proofs.Common.{refl, sym, ap, ◌∙◌, subst, length}
 use Rattle.ends_model.specs.MachineTurn.{machine_acts}
 use Rattle.machine_core.specs.Machines.{Does, awaited}
-use Rattle.machine_turns.specs.Ends.{IsTurn, received}
 use Rattle.machine_turns.proofs.Ports.{acts-size}
 use Rattle.machine_turns.proofs.Turning.{acted, made, acts-at, all-counted, of-same}
 use Rattle.machine_turns.proofs.machine.MachineEnd.act.Goals as goal

@@ -1,4 +1,4 @@
-use Rattle.std.proofs.Common.{refl, sym, ap, ◌∙◌, ◌≡◌, ◌<◌, subst, arith, length, map, set, None}
+use Rattle.std.proofs.Common.{refl, sym, ◌≡◌, ◌<◌, subst, arith, length, map, set, None}
 use Rattle.std.proofs.lemmas.Option.{slice_get_read}
 use Rattle.rp_framing.specs.Framing.{Frames}
 use Rattle.machine_turns.specs.Ends.{End, fed_at, received}

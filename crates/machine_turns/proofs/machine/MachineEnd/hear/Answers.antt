@@ -23,7 +23,7 @@ invariant_of-self-in-Ok-hear g c =
     )
 
 pub returns-in-Ok-hear : goal.returns-in-Ok-hear
-returns-in-Ok-hear g c =
+returns-in-Ok-hear g c sent =
     let i = c.self.inside in
     let k = g.M.Master.model in
     let fs = i.framers.items in
@@ -39,7 +39,7 @@ returns-in-Ok-hear g c =
     of-same k _ _ _ _ _ _ _ c.self.view_is
     (took k (made i.core.end i.fault fs)
     (made c.hear.new.self.end i.fault (set fs p c.skip.new.self)) p c.args.size m
-    (received f) c.args.out.now.bytes kept c.self.invariant.1
+    (received f) sent kept c.self.invariant.1
     (ap (λ e. awaited (machine_acts k e.clear)) c.self.view_is ∙ c.requires.awaited)
     (ap (λ e. first (held_at e p)) c.self.view_is ∙ c.requires.front) (all-counted fs c.self.invariant.0)
     (held-there fs p f at)
@@ -56,7 +56,7 @@ invariant_of-self-in-Err-hear g c = (
 )
 
 pub returns-in-Err-hear : goal.returns-in-Err-hear
-returns-in-Err-hear g c =
+returns-in-Err-hear g c sent =
     let i = c.self.inside in
     let k = g.M.Master.model in
     let fs = i.framers.items in
@@ -65,7 +65,7 @@ returns-in-Err-hear g c =
     let kept = ap (λ e. e.kept) c.self.view_is ∙ c.requires.kept in
     of-same k _ _ _ _ _ _ _ c.self.view_is
     (refused-as k (made i.core.end i.fault fs) c.hear.new.self.end fs p c.args.size m c.in-Err-hear.fault c.end_fault.result
-    c.args.out.now.bytes kept c.self.invariant.1
+    sent kept c.self.invariant.1
     (ap (λ e. awaited (machine_acts k e.clear)) c.self.view_is ∙ c.requires.awaited)
     (ap (λ e. first (held_at e p)) c.self.view_is ∙ c.requires.front) c.end_fault.ensures
     (subst (λ h. Becomes (machine_takes k h p (Valid m)) c.hear.new.self.end p (Err c.in-Err-hear.fault))

@@ -12,16 +12,15 @@ use Rattle.machine_turns.proofs.Turning.{held-there, made, malformed, of-same, u
 use Rattle.machine_turns.proofs.machine.MachineEnd.hear_front.Goals as goal
 
 pub returns-then-at-len : goal.returns-then-at-len
-returns-then-at-len g c =
+returns-then-at-len g c sent =
     let i = c.self.inside in
     let k = g.M.Master.model in
     let fs = i.framers.items in
     let p = c.args.port in
-    let out = c.args.out.now.bytes in
     let size = length-map fs received in
     let long : length (map received fs) ≤ p = omega (arith, size, i.framers.ok.0) in
-    subst (λ x. IsTurn k x x out out (Ok (turn.NotYet p)) None) c.self.view_is
-    (unready k (made i.core.end i.fault fs) p out (ap (λ e. e.kept) c.self.view_is ∙ c.requires.kept) c.self.invariant.1
+    subst (λ x. IsTurn k x x sent sent (Ok (turn.NotYet p)) None) c.self.view_is
+    (unready k (made i.core.end i.fault fs) p sent (ap (λ e. e.kept) c.self.view_is ∙ c.requires.kept) c.self.invariant.1
     (ap (λ e. awaited (machine_acts k e.clear)) c.self.view_is ∙ c.requires.awaited)
     (ap (λ o. first (held_of o)) (slice_get_past (map received fs) p long)))
 
@@ -41,28 +40,27 @@ hear-requires-clause-within g c =
     let within : p < length fs = omega (arith, c.self.inside.framers.ok.0) in
     let at = slice_get_read fs (length fs) p c.index.result.now refl within c.index.ensures in
     let held : length (held_at c.args.self.now p) ≡ length c.index.result.now.held =
-        ap (λ e. length (held_at e p)) (sym c.self.view_is) ∙ ap (λ o. length (held_of o)) (held-there fs p _ at) in
+    ap (λ e. length (held_at e p)) (sym c.self.view_is) ∙ ap (λ o. length (held_of o)) (held-there fs p _ at) in
     let few : c.in-Ok-Some.size ≤ length c.index.result.now.held =
-        rw c.in-Ok-Some.field-0-is at c.in-Ok-Some.ensures.within in
+    rw c.in-Ok-Some.field-0-is at c.in-Ok-Some.ensures.within in
     omega (arith, held, few)
 
 pub returns-in-Ok-None : goal.returns-in-Ok-None
-returns-in-Ok-None g c =
+returns-in-Ok-None g c sent =
     let i = c.self.inside in
     let k = g.M.Master.model in
     let fs = i.framers.items in
     let p = c.args.port in
-    let out = c.args.out.now.bytes in
     let within : p < length fs = omega (arith, c.self.inside.framers.ok.0) in
     let at = slice_get_read fs (length fs) p c.index.result.now refl within c.index.ensures in
     let front = rw c.in-Ok-None.field-0-is at c.in-Ok-None.ensures.front in
-    subst (λ x. IsTurn k x x out out (Ok (turn.NotYet p)) None) c.self.view_is
-    (unready k (made i.core.end i.fault fs) p out (ap (λ e. e.kept) c.self.view_is ∙ c.requires.kept) c.self.invariant.1
+    subst (λ x. IsTurn k x x sent sent (Ok (turn.NotYet p)) None) c.self.view_is
+    (unready k (made i.core.end i.fault fs) p sent (ap (λ e. e.kept) c.self.view_is ∙ c.requires.kept) c.self.invariant.1
     (ap (λ e. awaited (machine_acts k e.clear)) c.self.view_is ∙ c.requires.awaited)
     (ap (λ o. first (held_of o)) (held-there fs p _ at) ∙ front))
 
 pub returns-in-Err-Malformed : goal.returns-in-Err-Malformed
-returns-in-Err-Malformed g c =
+returns-in-Err-Malformed g c sent =
     let i = c.self.inside in
     let k = g.M.Master.model in
     let fs = i.framers.items in
@@ -75,6 +73,6 @@ returns-in-Err-Malformed g c =
     of-same k _ _ _ _ _ _ _ c.self.view_is
     (malformed k (made i.core.end i.fault fs)
     (made i.core.end (Some (record { port = p; fault = fault.Malformed c.in-Err-Malformed.fault })) fs) p front.1
-    c.in-Err-Malformed.fault c.args.out.now.bytes (ap (λ e. e.kept) c.self.view_is ∙ c.requires.kept) c.self.invariant.1
+    c.in-Err-Malformed.fault sent (ap (λ e. e.kept) c.self.view_is ∙ c.requires.kept) c.self.invariant.1
     (ap (λ e. awaited (machine_acts k e.clear)) c.self.view_is ∙ c.requires.awaited)
     (ap (λ o. first (held_of o)) (held-there fs p _ at) ∙ front.2) there refl refl)
