@@ -1,23 +1,33 @@
 -- What contracts see of a machine end with the bytes that it received: its core, the fault that it keeps, and by port
 -- the bytes that it did not take yet; and what a call of its turn does.
-use Rattle.std.specs.Prelude.{◌≡◌, ℕ, ◌+◌, ◌≤◌, List, [], ◌++◌, length, drop, get_or, Option, Some, None}
+use Rattle.std.specs.Prelude.{◌≡◌, ℕ, ◌+◌, ◌<◌, ◌≤◌, List, [], ◌++◌, length, drop, get_or, Option, Some, None}
 use Rattle.std.specs.Prelude.{option_map, Result, Ok, Err, set, slice_get, replicate, Bool, true, false}
-use Rattle.process_network.specs.PacketStar.{Ends, HubEnd, hub_turn_by, fresh_hub}
-use Rattle.process_network.specs.PacketStar.LeafOutlook.{LeafHalts}
+use Rattle.process_network.specs.Network.{Streams}
+use Rattle.process_network.specs.PacketStar.{HubEnd, hub_turn_by, fresh_hub}
 use Rattle.cosim_model.specs.declared.session.EndFault.{EndFault}
 use Rattle.cosim_model.specs.declared.session.EndFault.TheVariants as end_fault
-use Rattle.cosim_model.specs.Packets.{Decoded, Codec, spell}
+use Rattle.cosim_model.specs.Packets.{Packet}
+use Rattle.cosim_model.specs.Packets.Decoded.{Valid, Malformed}
 use Rattle.cosim_model.specs.Parts.{MasterModel}
 use Rattle.ends_model.specs.declared.ends.Turn.{Turn}
 use Rattle.ends_model.specs.declared.ends.Turn.TheVariants as turn
 use Rattle.ends_model.specs.Answers.{machine_answer}
-use Rattle.ends_model.specs.MachineTurn.{MachineEnd, machine_outlook, machine_takes}
+use Rattle.ends_model.specs.MachineTurn.{MachineEnd, machine_outlook}
 use Rattle.rp_framing.specs.Framing.{Frames, counted}
 use Rattle.rp_packet.specs.declared.fault.Cause.{Cause}
 use Rattle.rp_packet.specs.declared.fault.PacketFault.{PacketFault}
 use Rattle.rp_packet.specs.Refusals.{first}
 use Rattle.rp_packet.specs.Streams.{packet_codec}
-use Rattle.device_turns.specs.Ends.{cause_of}
+use Rattle.cos_base.specs.Links.{Wire}
+use Rattle.rp_framing.specs.Receiving.{Came, CameAll, CamePartly}
+use Rattle.rp_framing.specs.declared.receiver.Pulled.{Pulled}
+use Rattle.rp_framing.specs.declared.receiver.Pulled.TheVariants as pulled
+use Rattle.rp_framing.specs.declared.receiver.ReceiveFault.{ReceiveFault}
+use Rattle.rp_framing.specs.declared.receiver.ReceiveFault.TheVariants as receive
+use Rattle.rp_packet.specs.Reading.{fault_at}
+use Rattle.cosim_model.specs.Streams.{HasTaken}
+use Rattle.device_turns.specs.Ends.{IsPlaced, cause_of}
+use Rattle.machine_turns.specs.Runs.{Grown, IsRun, Rests, Taking, machine_alone}
 use Rattle.machine_core.specs.declared.fault.HearFault.{HearFault}
 use Rattle.machine_core.specs.declared.fault.HearFault.TheVariants as hear
 use Rattle.machine_turns.specs.declared.fault.PortFault.{PortFault}
@@ -66,17 +76,12 @@ held_of (Some r) = r.held
 abbrev pub held_at : {M : Type 0} → End M → ℕ → List ℕ
 held_at e p = held_of (slice_get e.ports p)
 
--- a machine end with no device ends
-abbrev pub machine_alone :
-    {M F : Type 0} → MasterModel M → Codec F → Ends (MachineEnd M F) (Unit {0}) (Decoded F)
-machine_alone k codec = record {
-  hub_outlook = machine_outlook k;
-  hub_take = machine_takes k;
-  leaf_outlook = λ l. LeafHalts;
-  leaf_take = λ l m. (l, []);
-  first = codec.first;
-  write = spell codec;
-}
+abbrev pub taken_in : Option Received → ℕ
+taken_in None = 0
+taken_in (Some r) = r.taken
+
+abbrev pub taken_at : {M : Type 0} → End M → ℕ → ℕ
+taken_at e p = taken_in (slice_get e.ports p)
 
 -- the turn over the bytes that it holds; none where it can't move
 abbrev pub turn_of :
@@ -154,3 +159,105 @@ kept_after kept p (end_fault.TooMuch taken) = Some (record { port = p; fault = e
 kept_after kept p (end_fault.Link count) = Some (record { port = p; fault = end_fault.Link count })
 kept_after kept p (end_fault.LateWant at got) = Some (record { port = p; fault = end_fault.LateWant at got })
 kept_after kept p (end_fault.Astray cmd) = Some (record { port = p; fault = end_fault.Astray cmd })
+
+-- What stood at the front of a port's bytes, by what a turn of an end that kept no fault answered: a packet was taken;
+-- a malformed one is told, which begins behind the bytes that were taken; or a packet is told that breaks a rule, or
+-- that came too late. There is no other fault.
+
+abbrev pub IsBlamedAt : ℕ → List ℕ → EndFault PacketFault → Type 0
+IsBlamedAt taken held (end_fault.Malformed f) =
+    (size : ℕ) × (first held ≡ Some (Malformed f.cause, size)) × (f ≡ fault_at taken f.cause)
+IsBlamedAt taken held (end_fault.Session f) = Unit {0}
+IsBlamedAt taken held (end_fault.LateWant at got) = Unit {0}
+IsBlamedAt taken held (end_fault.Truncated start rest) = ⊥
+IsBlamedAt taken held (end_fault.Ended count) = ⊥
+IsBlamedAt taken held (end_fault.TooMuch count) = ⊥
+IsBlamedAt taken held (end_fault.Link count) = ⊥
+IsBlamedAt taken held (end_fault.Astray cmd) = ⊥
+IsBlamedAt taken held end_fault.NoMemory = ⊥
+
+abbrev pub IsAtFront : {M : Type 0} → End M → Result Turn TurnFault → Type 0
+IsAtFront e (Ok (turn.Took p)) = (m : Packet) × (size : ℕ) × (first (held_at e p) ≡ Some (Valid m, size))
+IsAtFront e (Ok turn.Unit) = Unit {0}
+IsAtFront e (Ok (turn.Sent p)) = p < length e.ports
+IsAtFront e (Ok (turn.Served p)) = Unit {0}
+IsAtFront e (Ok turn.Marked) = Unit {0}
+IsAtFront e (Ok (turn.NotYet p)) = Unit {0}
+IsAtFront e (Ok turn.Done) = Unit {0}
+IsAtFront e (Err (turn_fault.Port f)) = IsBlamedAt (taken_at e f.port) (held_at e f.port) f.fault
+IsAtFront e (Err turn_fault.NoMemory) = Unit {0}
+
+-- A malformed packet that an end tells stands behind packets of its port, at the place that is told.
+abbrev pub IsPlacedAt : Streams → Option PortFault → Type 0
+IsPlacedAt received None = Unit {0}
+IsPlacedAt received (Some f) = IsPlaced (received f.port) (Some f.fault)
+
+-- An end that was fed these bytes by port, however they were cut, and whose turns sent these: it stands within the run
+-- of a machine end over them.
+pub record HasRun {M : Type 0} (k : MasterModel M) (start : MachineEnd M Cause) (ports : ℕ) (received sent : Streams)
+    (e : End M) : Type 0 where
+  pub turns : ℕ
+  pub hub : Taking M
+  pub run : IsRun k start ports received turns hub sent
+  pub core : core_of e ≡ hub.core
+  pub size : length e.ports ≡ ports
+  pub held : e.kept ≡ None → (p : ℕ) → p < ports → held_at e p ≡ drop (get_or hub.taken p 0) (received p)
+  pub taken : e.kept ≡ None → (p : ℕ) → p < ports → taken_at e p ≡ counted (get_or hub.taken p 0)
+  pub packets : e.kept ≡ None → (p : ℕ) → HasTaken packet_codec (received p) (get_or hub.taken p 0) None
+  pub placed : IsPlacedAt received e.kept
+
+-- The run that an end stood in goes on with what it was fed.
+abbrev pub RunsOn : {M : Type 0} → MasterModel M → ℕ → List ℕ → End M → End M → Type 0
+RunsOn {M} k p bytes old new =
+    (start : MachineEnd M Cause) (ports : ℕ) (received more sent : Streams) → Grown p bytes received more
+    → HasRun k start ports received sent old → HasRun k start ports more sent new
+
+-- what a call of turn appended goes to the port that it names
+abbrev pub Sends : Result Turn TurnFault → List ℕ → List ℕ → Streams → Streams → Type 0
+Sends (Ok (turn.Sent p)) before after sent later = Grown p (drop (length before) after) sent later
+Sends (Ok turn.Unit) before after sent later = (q : ℕ) → later q ≡ sent q
+Sends (Ok (turn.Took p)) before after sent later = (q : ℕ) → later q ≡ sent q
+Sends (Ok (turn.Served p)) before after sent later = (q : ℕ) → later q ≡ sent q
+Sends (Ok turn.Marked) before after sent later = (q : ℕ) → later q ≡ sent q
+Sends (Ok (turn.NotYet p)) before after sent later = (q : ℕ) → later q ≡ sent q
+Sends (Ok turn.Done) before after sent later = (q : ℕ) → later q ≡ sent q
+Sends (Err f) before after sent later = (q : ℕ) → later q ≡ sent q
+
+-- The run that an end stood in goes on with what a call of turn sent.
+abbrev pub GoesOn : {M : Type 0} → MasterModel M → End M → End M → List ℕ → List ℕ → Result Turn TurnFault → Type 0
+GoesOn {M} k old new before after answer =
+    (start : MachineEnd M Cause) (ports : ℕ) (received sent later : Streams) → Sends answer before after sent later
+    → HasRun k start ports received sent old → HasRun k start ports received later new
+
+-- Whatever run it stands in is whole: the end can take no more turns over what it was fed.
+abbrev pub IsAtRest : {M : Type 0} → MasterModel M → End M → Type 0
+IsAtRest {M} k e =
+    (start : MachineEnd M Cause) (ports : ℕ) (received sent : Streams) (run : HasRun k start ports received sent e)
+    → Rests k run.hub received
+
+-- where the end can't move, it has taken every turn
+abbrev pub SendsAll : {M : Type 0} → MasterModel M → Result Turn TurnFault → End M → Type 0
+SendsAll k (Ok (turn.NotYet p)) e = IsAtRest k e
+SendsAll k (Ok turn.Done) e = IsAtRest k e
+SendsAll k (Ok turn.Unit) e = Unit {0}
+SendsAll k (Ok (turn.Sent p)) e = Unit {0}
+SendsAll k (Ok (turn.Took p)) e = Unit {0}
+SendsAll k (Ok (turn.Served p)) e = Unit {0}
+SendsAll k (Ok turn.Marked) e = Unit {0}
+SendsAll k (Err (turn_fault.Port f)) e = IsAtRest k e
+SendsAll k (Err turn_fault.NoMemory) e = Unit {0}
+
+-- It waits for a packet of this port, none is whole, and it would do nothing.
+abbrev pub IsWaiting : {M : Type 0} → MasterModel M → ℕ → End M → Type 0
+IsWaiting k p e = answer_of k e ≡ Some (Ok (turn.NotYet p))
+
+-- What one read of port p did to an end that waits, by what it answered.
+abbrev pub Pulls :
+    {M : Type 0} → Option Wire → Option Wire → ℕ → End M → End M → Result Pulled ReceiveFault → Type 0
+Pulls was now p old new (Ok pulled.More) = (piece : List ℕ) × (1 ≤ length piece) × (length piece ≤ 4096)
+    × Came was now piece × (new ≡ fed_at None p piece old)
+Pulls was now p old new (Ok pulled.End) = CameAll was now [] × (new ≡ old)
+Pulls was now p old new (Err (receive.Link count)) = CamePartly was now [] × (new ≡ old)
+Pulls was now p old new (Err receive.NoMemory) = CamePartly was now [] × (new ≡ old)
+Pulls was now p old new (Err (receive.Malformed f)) = ⊥
+Pulls was now p old new (Err (receive.Truncated rest)) = ⊥
