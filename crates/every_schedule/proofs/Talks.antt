@@ -217,7 +217,7 @@ module _ {M S F : Type 0} (k : MasterModel M) (d : DeviceModel S) (codec : Codec
   left_by (Some f) l = 0
   left_by None l = l
 
-  abbrev left : H → ℕ
+  abbrev pub left : H → ℕ
   left h = left_by h.fault (suc (times (rank h) (suc (16383 * n)) + credit h.ports))
 
   -- What holds in each state that a run comes to.
@@ -237,7 +237,7 @@ module _ {M S F : Type 0} (k : MasterModel M) (d : DeviceModel S) (codec : Codec
     pub tick_is : h.tick ≤ plan.units
     pub place : Place h.tick h.marked h.phase
 
-  abbrev Onward : H → H → Type 0
+  abbrev pub Onward : H → H → Type 0
   Onward h next = Holds next × (left next < left h)
 
   most : (next : H) → Holds next → credit next.ports ≤ 16383 * n
@@ -266,7 +266,7 @@ module _ {M S F : Type 0} (k : MasterModel M) (d : DeviceModel S) (codec : Codec
         (subst (λ o. left_by o (suc (times (rank next) (suc (16383 * n)) + credit next.ports)) < suc (times (rank h) (suc (16383 * n)) + credit h.ports)) (sym bad) (omega arith)),
   )
 
-  abbrev Goes : H → HubOutlook H (Decoded F) → Type 0
+  abbrev pub Goes : H → HubOutlook H (Decoded F) → Type 0
   Goes h (HubActs next sends) = Onward h next
   Goes h (HubWaits p) = p < n
   Goes h HubHalts = Unit {0}
@@ -573,7 +573,7 @@ module _ {M S F : Type 0} (k : MasterModel M) (d : DeviceModel S) (codec : Codec
 
   -- Every turn.
 
-  machine_goes : (h : H) → Holds h → Goes h (machine_outlook k h)
+  pub machine_goes : (h : H) → Holds h → Goes h (machine_outlook k h)
   machine_goes h holds = by h.fault refl
     where
       by : (o : Option (ℕ × EndFault F)) → h.fault ≡ o → Goes h (machine_looks k h o)
@@ -590,17 +590,17 @@ module _ {M S F : Type 0} (k : MasterModel M) (d : DeviceModel S) (codec : Codec
       by None ok = ok
       by (Some f) bad = absurd (not_waits p (sym (ap (machine_looks k h) bad) ∙ w))
 
-  taken : (h : H) → Holds h → (p : ℕ) → machine_outlook k h ≡ HubWaits p → (m : Decoded F) → Onward h (machine_takes k h p m)
+  pub taken : (h : H) → Holds h → (p : ℕ) → machine_outlook k h ≡ HubWaits p → (m : Decoded F) → Onward h (machine_takes k h p m)
   taken h holds p w m = takes_goes h holds (waits_sound h p w) p (subst (λ v. Goes h v) w (machine_goes h holds)) m
 
-  acted : (h : H) → Holds h → (next : H) (sends : Option (ℕ × Decoded F)) → machine_outlook k h ≡ HubActs next sends → Onward h next
+  pub acted : (h : H) → Holds h → (next : H) (sends : Option (ℕ × Decoded F)) → machine_outlook k h ≡ HubActs next sends → Onward h next
   acted h holds next sends w = subst (λ v. Goes h v) w (machine_goes h holds)
 
   start_place : (i : ℕ) → i ≡ n → Place 0 false (start_phase i)
   start_place zero e = λ m. absurd (cc m)
   start_place (suc i) e = ((let f : suc i ≡ n = e in omega arith), refl)
 
-  fresh_holds : (m : M) → Holds (machine_start F m n plan)
+  pub fresh_holds : (m : M) → Holds (machine_start F m n plan)
   fresh_holds m = record { size = length-replicate n _; roles = role_fresh n _ refl; plan_is = refl; tick_is = (omega arith); place = start_place n refl }
 
   -- What holds after any run.

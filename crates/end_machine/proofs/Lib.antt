@@ -1,0 +1,5 @@
+mod Measures
+mod TalkLaws
+mod WireLaws
+mod GoingLaws
+mod StepLaws

@@ -1,0 +1,126 @@
+-- What driving a machine end over its links leaves: what was sent for what was received, how the counts of faults
+-- moved, whom a fault blames, which fault is kept, and how it ends over honest links.
+use Rattle.std.specs.Prelude.{◌≡◌, ℕ, ◌<◌, Bool, true, false, nat_eq, List, length, get_or, map, Option, Some, None}
+use Rattle.std.specs.Prelude.{option_map, Result, Ok, Err, slice_get}
+use Rattle.byte_streams.specs.Prefixes.{IsPrefix}
+use Rattle.process_network.specs.Network.{Streams}
+use Rattle.process_network.specs.TellingLinks.{IsFixed}
+use Rattle.cos_base.specs.Counts.{Rises}
+use Rattle.cos_base.specs.Links.{Wire}
+use Rattle.cosim_model.specs.declared.session.EndFault.{EndFault}
+use Rattle.cosim_model.specs.declared.session.EndFault.TheVariants as fault
+use Rattle.cosim_model.specs.declared.values.Plan.{Plan}
+use Rattle.cosim_model.specs.Parts.{DeviceModel, MasterModel}
+use Rattle.cosim_model.specs.Direct.{direct}
+use Rattle.ends_model.specs.MachineTurn.{MachineEnd}
+use Rattle.ends_model.specs.World.{Side}
+use Rattle.rp_packet.specs.declared.fault.Cause.{Cause}
+use Rattle.rp_packet.specs.declared.fault.PacketFault.{PacketFault}
+use Rattle.machine_turns.specs.declared.fault.PortFault.{PortFault}
+use Rattle.machine_turns.specs.declared.fault.TurnFault.{TurnFault}
+use Rattle.machine_turns.specs.declared.fault.TurnFault.TheVariants as turn_fault
+use Rattle.machine_turns.specs.Runs.{IsRun, IsWholeRun, Rests, Taking}
+use Rattle.end_machine.specs.Talk.{EndsSo, HasParts, IfLink}
+use Rattle.end_machine.specs.Wires.{AllTell, Said, received_on, said_on, sent_on}
+
+-- at the end of the stream of an awaited port all was received that its link says for what was sent
+abbrev pub IsAllReadBy : Said → Streams → Streams → ℕ → EndFault PacketFault → Type 0
+IsAllReadBy said received sent p (fault.Ended taken) = received p ≡ said p (sent p)
+IsAllReadBy said received sent p (fault.Truncated start held) = received p ≡ said p (sent p)
+IsAllReadBy said received sent p f = Unit {0}
+
+abbrev pub IsAllRead : Said → Streams → Streams → Result Unit TurnFault → Type 0
+IsAllRead said received sent (Err (turn_fault.Port f)) = IsAllReadBy said received sent f.port f.fault
+IsAllRead said received sent (Err turn_fault.NoMemory) = Unit {0}
+IsAllRead said received sent (Ok u) = Unit {0}
+
+-- Whatever bytes Talk comes to rest with, these are a beginning of them.
+abbrev pub IsInTime : {M : Type 0} → MasterModel M → MachineEnd M Cause → ℕ → Said → Streams → Type 0
+IsInTime {M} k start ports said received =
+    (x : Streams) (turns : ℕ) (h : Taking M) (sent : Streams) → IsRun k start ports x turns h sent → Rests k h x
+    → IsFixed said x sent → (p : ℕ) → IsPrefix (received p) (x p)
+
+-- All links still tell. Every turn was taken over what was received, what they send was sent, and the end ends so.
+pub record IsDriven {M : Type 0} (k : MasterModel M) (start : MachineEnd M Cause) (said : Said)
+    (e : MachineEnd M Cause) (r : Result Unit TurnFault) (ns : List Wire) : Type 0 where
+  pub same : (p : ℕ) → said_on ns p ≡ said p
+  pub hub : Taking M
+  pub whole : IsWholeRun k start (length ns) (received_on ns) hub (sent_on ns)
+  pub ends : EndsSo k hub (received_on ns) r
+  pub parts : HasParts e hub
+  pub all : IsAllRead said (received_on ns) (sent_on ns) r
+  pub in_time : IsInTime k start (length ns) said (received_on ns)
+
+-- What was sent on each link that still tells is a beginning of what a run sends over what was received.
+pub record IsPartly {M : Type 0} (k : MasterModel M) (start : MachineEnd M Cause) (now : List (Option Wire))
+    : Type 0 where
+  pub received : Streams
+  pub turns : ℕ
+  pub hub : Taking M
+  pub sent : Streams
+  pub run : IsRun k start (length now) received turns hub sent
+  pub links :
+      (p : ℕ) (n : Wire) → slice_get now p ≡ Some (Some n)
+      → (n.received ≡ received p) × IsPrefix n.sent (sent p)
+
+abbrev pub Tells : List (Option Wire) → (List Wire → Type 0) → Type 0
+Tells now P = (ns : List Wire) × AllTell now ns × P ns
+
+-- What an answer leaves of links that all told at first.
+abbrev pub Leaves :
+    {M : Type 0} → MasterModel M → MachineEnd M Cause → Said → MachineEnd M Cause → Result Unit TurnFault
+    → List (Option Wire) → Type 0
+Leaves k start said e (Ok u) now = Tells now (IsDriven k start said e (Ok u))
+Leaves k start said e (Err (turn_fault.Port f)) now =
+    IfLink f.fault (IsPartly k start now) (Tells now (IsDriven k start said e (Err (turn_fault.Port f))))
+Leaves k start said e (Err turn_fault.NoMemory) now = IsPartly k start now
+
+-- The count of faults rose of the link that is blamed, is told, and of no other.
+
+abbrev pub count_in : EndFault PacketFault → Option ℕ
+count_in (fault.Link count) = Some count
+count_in _ = None
+
+-- the link that is blamed, with the count that is told
+abbrev pub blamed : {A : Type 0} → Result A TurnFault → Option (ℕ × ℕ)
+blamed (Ok a) = None
+blamed (Err turn_fault.NoMemory) = None
+blamed (Err (turn_fault.Port f)) = option_map (λ count. (f.port, count)) (count_in f.fault)
+
+abbrev pub CountsIf : Bool → ℕ → ℕ → ℕ → Type 0
+CountsIf true count before now = Rises before now × (count ≡ now)
+CountsIf false count before now = now ≡ before
+
+abbrev pub CountsAt : Option (ℕ × ℕ) → ℕ → ℕ → ℕ → Type 0
+CountsAt None p before now = now ≡ before
+CountsAt (Some b) p before now = CountsIf (nat_eq b.0 p) b.1 before now
+
+abbrev pub DriveCounts : {A : Type 0} → List ℕ → List ℕ → Result A TurnFault → Type 0
+DriveCounts before now r =
+    (length now ≡ length before)
+    × ((p : ℕ) → p < length before → CountsAt (blamed r) p (get_or before p 0) (get_or now p 0))
+
+-- no link is blamed
+abbrev pub NotLink : {A : Type 0} → Result A TurnFault → Type 0
+NotLink r = blamed r ≡ None
+
+-- the fault that the end keeps by what was answered
+abbrev pub kept_by : {A : Type 0} → Result A TurnFault → Option PortFault
+kept_by (Ok a) = None
+kept_by (Err turn_fault.NoMemory) = None
+kept_by (Err (turn_fault.Port f)) = Some f
+
+-- The master, the calls and the ticks are those of the direct machine. Unless memory runs out or a link is to blame,
+-- there is no fault.
+pub record IsDirect {M S : Type 0} (k : MasterModel M) (d : DeviceModel S) (plan : Plan) (m : M)
+    (xs : List (Side × S)) (e : MachineEnd M Cause) : Type 0 where
+  pub master : e.master ≡ (direct k d plan m (map (λ (x : Side × S). x.1) xs)).master
+  pub calls : e.calls ≡ (direct k d plan m (map (λ (x : Side × S). x.1) xs)).calls
+  pub tick : e.tick ≡ (direct k d plan m (map (λ (x : Side × S). x.1) xs)).tick
+
+abbrev pub EndsDirectly :
+    {M S : Type 0} → MasterModel M → DeviceModel S → Plan → M → List (Side × S) → MachineEnd M Cause
+    → Result Unit TurnFault → Type 0
+EndsDirectly k d plan m xs e (Ok u) = IsDirect k d plan m xs e
+EndsDirectly k d plan m xs e (Err (turn_fault.Port f)) = IfLink f.fault (Unit {0}) ⊥
+EndsDirectly k d plan m xs e (Err turn_fault.NoMemory) = Unit {0}

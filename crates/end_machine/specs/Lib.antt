@@ -1,0 +1,4 @@
+pub mod Wires
+pub mod Talk
+pub mod Driving
+pub mod Going

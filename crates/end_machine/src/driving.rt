@@ -1,0 +1,4 @@
+// A machine end over its links.
+
+/// Nothing yet.
+pub fn drive() {}
