@@ -23,7 +23,8 @@ use Rattle.machine_core.specs.Machines.{Core, Becomes, Does, awaited}
 use Rattle.machine_core.specs.declared.fault.HearFault.{HearFault}
 use Rattle.machine_core.specs.declared.fault.HearFault.TheVariants as hear
 use Rattle.machine_turns.specs.declared.fault.PortFault.{PortFault}
-use Rattle.machine_turns.specs.Ends.{End, Goes, Holds, IsOpen, IsTurn, Received, answer_of, core_of, fed_at, fresh, heard_fault, held_at, machine_alone, more, moves, port_cause, put, received, sent_by, taken_of}
+use Rattle.machine_turns.specs.Runs.{machine_alone}
+use Rattle.machine_turns.specs.Ends.{End, Goes, Holds, IsOpen, IsTurn, Received, answer_of, core_of, fed_at, fresh, heard_fault, held_at, more, moves, port_cause, put, received, sent_by, taken_of}
 
 -- an end by what it is made of
 abbrev pub made : {M : Type 0} → MachineEnd M Cause → Option PortFault → List Frames → End M
@@ -50,7 +51,7 @@ all-counted fs open_all p r e =
     let most = subst IsOpen (get_or_from_slice_get fs p at.0 at.0 at.1) f_open in
     subst (λ x. x.taken ≤ 18446744073709551615) (sym at.2) most.1
 
-zeros : (n p : ℕ) → ◌≡◌ {A = ℕ} (get_or (replicate n 0) p 0) 0
+pub zeros : (n p : ℕ) → ◌≡◌ {A = ℕ} (get_or (replicate n 0) p 0) 0
 zeros zero p = refl
 zeros (suc n) zero = refl
 zeros (suc n) (suc p) = zeros n p
@@ -91,7 +92,7 @@ awaited-is Rests p e = absurd (none-some p e)
 awaited-is (Fails q f) p e = absurd (none-some p e)
 awaited-is Lost p e = absurd (none-some p e)
 
-some-not : {A : Type 0} (k : Option A) (a : A) → k ≡ Some a → k ≡ None → ⊥
+pub some-not : {A : Type 0} (k : Option A) (a : A) → k ≡ Some a → k ≡ None → ⊥
 some-not k a is none = none-some a (sym none ∙ is)
 
 -- Bytes of a port are received.
@@ -124,12 +125,12 @@ none-of (Some a) is = absurd (cc (is))
 pub open-skipped : (f g : Frames) (size : ℕ) → g ≡ after_skip size f → IsOpen g
 open-skipped f g size is = subst IsOpen (sym is) (refl, omega arith)
 
-unfaulty : {M : Type 0} (c : MachineEnd M Cause) → c.fault ≡ None → c ≡ record c { fault = None }
+pub unfaulty : {M : Type 0} (c : MachineEnd M Cause) → c.fault ≡ None → c ≡ record c { fault = None }
 unfaulty c is = ap (λ (f : Option (ℕ × EndFault Cause)). record c { fault = f }) is
 
 module _ {M : Type 0} (k : MasterModel M) where
   -- an end that keeps no fault
-  clear-core : (e : End M) → e.kept ≡ None → e.clear.fault ≡ None → core_of e ≡ e.clear
+  pub clear-core : (e : End M) → e.kept ≡ None → e.clear.fault ≡ None → core_of e ≡ e.clear
   clear-core e kept clear =
       ap (λ (f : Option PortFault). record e.clear { fault = option_map port_cause f }) kept ∙ sym (unfaulty e.clear clear)
 
