@@ -35,117 +35,7 @@ use Rattle.machine_turns.specs.declared.fault.TurnFault.TheVariants as turn_faul
 use Rattle.machine_turns.specs.Runs.{Rests as AtRest, Taking, machine_alone, only_at}
 use Rattle.machine_turns.specs.Ends.{End, Goes, GoesOn, HasRun, Holds, IsAtFront, IsAtRest, IsBlamedAt, IsPlacedAt, IsTurn, IsWaiting, Received, Sends as Sent, SendsAll, Turns, answer_of, core_of, held_at, held_of, port_cause, sent_by, taken_at, taken_in, taken_of, turn_of}
 use Rattle.machine_turns.specs.RunLaws.{run-on, run-size, sent-stays}
-use Rattle.machine_turns.proofs.Turning.{clear-core, some-not, there-some, zeros}
-
-some-is : {A : Type 0} (a b : A) → Some a ≡ Some b → a ≡ b
-some-is a b e = cc (e)
-
-absent : {A : Type 0} (a : A) → Some a ≡ None → ⊥
-absent a e = cc (e)
-
--- Bytes that are held stand at a port that is there.
-pub front-there : {M : Type 0} (e : End M) (p : ℕ) (m : Decoded Cause × ℕ) → first (held_at e p) ≡ Some m
-    → p < length e.ports
-front-there e p m front = by (slice_get e.ports p) refl
-  where
-    by : (o : Option Received) → slice_get e.ports p ≡ o → p < length e.ports
-    by None at = absurd (none-some m (sym (ap (λ o. first (held_of o)) at) ∙ front))
-    by (Some r) at = slice_get_within e.ports p r at
-
--- Counts of bytes add up.
-
-set-adds : (ts : List ℕ) (n q p size : ℕ) → length ts ≡ n → q < n
-    → get_or (set ts q (get_or ts q 0 + size)) p 0
-    ≡ get_or ts p 0 + get_or (set (replicate n 0) q (get_or (replicate n 0) q 0 + size)) p 0
-set-adds ts n q p size long within = by (cases_eq p q)
-  where
-    none = zeros n q
-
-    by : (p ≡ q) ⊎ (p ≡ q → ⊥) → get_or (set ts q (get_or ts q 0 + size)) p 0
-        ≡ get_or ts p 0 + get_or (set (replicate n 0) q (get_or (replicate n 0) q 0 + size)) p 0
-    by (inl same) =
-        ap (λ i. get_or (set ts q (get_or ts q 0 + size)) i 0) same
-        ∙ get_or-set_same ts q (get_or ts q 0 + size) 0 (subst (λ m. q < m) (sym long) within)
-        ∙ ap (λ i. get_or ts q 0 + (i + size)) (sym none)
-        ∙ ap (λ i. get_or ts q 0 + i) (sym (get_or-set_same (replicate n 0) q (get_or (replicate n 0) q 0 + size) 0
-        (subst (λ m. q < m) (sym (length-replicate n 0)) within)))
-        ∙ ap (λ i. get_or ts i 0 + get_or (set (replicate n 0) q (get_or (replicate n 0) q 0 + size)) i 0) (sym same)
-    by (inr apart) =
-        let here = get_or-set_other ts q p (get_or ts q 0 + size) 0 apart in
-        let there = get_or-set_other (replicate n 0) q p (get_or (replicate n 0) q 0 + size) 0 apart in
-        let zero_there = zeros n p in
-        omega (arith, here, there, zero_there)
-
-counted-more : (a n k : ℕ) → a ≡ counted n → counted (a + k) ≡ counted (n + k)
-counted-more a n k is = omega (arith, is)
-
-drop-nil : (n : ℕ) → ◌≡◌ {A = List ℕ} [] (drop n [])
-drop-nil zero = refl
-drop-nil (suc n) = refl
-
-held-after : (n : ℕ) (o : Option Received) → held_of (option_map (taken_of n) o) ≡ drop n (held_of o)
-held-after n None = drop-nil n
-held-after n (Some r) = refl
-
-only-nothing : (p q : ℕ) → only_at p [] q ≡ []
-only-nothing p q = by (nat_eq q p)
-  where
-    by : (b : Bool) → ◌≡◌ {A = List ℕ} (if b then [] else []) []
-    by true = refl
-    by false = refl
-
--- What is sent on a port that is there comes to its stream.
-sent-there : (n p q : ℕ) (bytes : List ℕ) → p < n → only_at p bytes q ≡ to_leaf n (Some (p, bytes)) (suc q)
-sent-there n p q bytes within =
-    by (nat_eq q p) refl ∙ ap (λ b. (if b then only (suc p) bytes else (λ j. [])) (suc q)) (sym (lt-ltb p n within))
-  where
-    by : (b : Bool) → nat_eq q p ≡ b → only_at p bytes q ≡ only (suc p) bytes (suc q)
-    by true is =
-        ap (λ b. if b then bytes else []) is
-        ∙ ap (λ b. if b then bytes else []) (sym (eq-eqb (suc q) (suc p) (ap suc (eqb-true q p is))))
-    by false is =
-        ap (λ b. if b then bytes else []) is
-        ∙ ap (λ b. if b then bytes else []) (sym (ne_eqb (suc q) (suc p) (λ same. eqb-false q p is (omega (arith, same)))))
-
--- Where a malformed packet stands that is told.
-placed-fault : (x held : List ℕ) (taken i : ℕ) (f : EndFault PacketFault)
-    → ((m : Decoded Cause × ℕ) → first held ≡ Some m → (held ≡ drop i x) × (taken ≡ counted i))
-    → HasTaken packet_codec x i None → IsBlamedAt taken held f → IsPlaced x (Some f)
-placed-fault x held taken i (fault.Malformed f) there had blamed =
-    let at = there (Malformed f.cause, blamed.0) blamed.1 in (
-      i,
-      record {
-        packets = had.0;
-        before = had.1;
-        size = blamed.0;
-        malformed = ap first (sym at.0) ∙ blamed.1;
-      },
-      blamed.2 ∙ ap (λ n. fault_at n f.cause) at.1,
-    )
-placed-fault x held taken i (fault.Session f) there had blamed = tt
-placed-fault x held taken i (fault.LateWant at got) there had blamed = tt
-placed-fault x held taken i (fault.Truncated a b) there had blamed = absurd blamed
-placed-fault x held taken i (fault.Ended n) there had blamed = absurd blamed
-placed-fault x held taken i (fault.TooMuch n) there had blamed = absurd blamed
-placed-fault x held taken i (fault.Link n) there had blamed = absurd blamed
-placed-fault x held taken i (fault.Astray n) there had blamed = absurd blamed
-placed-fault x held taken i fault.NoMemory there had blamed = absurd blamed
-
--- a turn that neither took a packet nor found none whole
-abbrev pub IsActing : Turn → Type 0
-IsActing turn.Unit = Unit {0}
-IsActing (turn.Sent p) = Unit {0}
-IsActing (turn.Took p) = ⊥
-IsActing (turn.Served p) = Unit {0}
-IsActing turn.Marked = Unit {0}
-IsActing (turn.NotYet p) = ⊥
-IsActing turn.Done = Unit {0}
-
-abbrev Answer : Type 0
-Answer = Result Turn (ℕ × EndFault Cause)
-
-ok-is : (t u : Turn) → ◌≡◌ {A = Answer} (Ok t) (Ok u) → t ≡ u
-ok-is t u is = cc (is)
+use Rattle.machine_turns.specs.StepLaws.{Answer, IsActing, absent, acts-none, clear-core, counted-more, done-halts, front-there, held-after, ok-is, only-nothing, placed-fault, sends-nothing, sends-to, sent-there, set-adds, some-is, some-not, takes-from, there-some, took-nothing, waits-for, zeros}
 
 module _ {M : Type 0} (k : MasterModel M) where
   abbrev After : Type 0
@@ -153,117 +43,6 @@ module _ {M : Type 0} (k : MasterModel M) where
 
   abbrev turned : Taking M → Streams → Act M Cause → Option After
   turned h x a = hub_turn_by (machine_alone k packet_codec) h x (outlook_of a)
-
-  -- What an answer shows of what the end did.
-
-  module _ (c : MachineEnd M Cause) (whole : ℕ → Option (Decoded Cause)) where
-    took-by : (p : ℕ) (t : Turn) (f : Option (ℕ × EndFault Cause)) → unless_faulty (turn.Took p) f ≡ Ok t → turn.Took p ≡ t
-    took-by p t None is = ok-is (turn.Took p) t is
-    took-by p t (Some f) is = absurd (cc (is))
-
-    not-acting : (p : ℕ) (t : Turn) (m : Option (Decoded Cause)) → take_answer k c p m ≡ Ok t → IsActing t → ⊥
-    not-acting p t None is acting = subst IsActing (sym (ok-is (turn.NotYet p) t is)) acting
-    not-acting p t (Some m) is acting =
-        subst IsActing (sym (took-by p t (machine_takes k c p m).fault is)) acting
-
-    acts-none : (a : Act M Cause) (t : Turn) → answer_by k c whole a ≡ Some (Ok t) → IsActing t → awaited a ≡ None
-    acts-none (Works next) t is acting = refl
-    acts-none (Sends p x next) t is acting = refl
-    acts-none (Awaits p) t is acting = absurd (not-acting p t (whole p) (some-is _ _ is) acting)
-    acts-none (Serves p next) t is acting = refl
-    acts-none (Marks next) t is acting = refl
-    acts-none Rests t is acting = refl
-    acts-none (Fails p f) t is acting = refl
-    acts-none Lost t is acting = refl
-
-    waits-by : (q p : ℕ) (m : Option (Decoded Cause)) → take_answer k c q m ≡ Ok (turn.NotYet p) → (q ≡ p) × (m ≡ None)
-    waits-by q p None is = (cc (ok-is (turn.NotYet q) (turn.NotYet p) is), refl)
-    waits-by q p (Some m) is = absurd (cc (took-by q (turn.NotYet p) (machine_takes k c q m).fault is))
-
-    waits-for : (a : Act M Cause) (p : ℕ) → answer_by k c whole a ≡ Some (Ok (turn.NotYet p))
-        → (a ≡ Awaits p) × (whole p ≡ None)
-    waits-for (Works next) p is = absurd (cc (is))
-    waits-for (Sends q x next) p is = absurd (cc (is))
-    waits-for (Awaits q) p is =
-        let found = waits-by q p (whole q) (some-is _ _ is) in
-        (ap (λ i. Awaits i) found.0, ap whole (sym found.0) ∙ found.1)
-    waits-for (Serves q next) p is = absurd (cc (is))
-    waits-for (Marks next) p is = absurd (cc (is))
-    waits-for Rests p is = absurd (cc (is))
-    waits-for (Fails q f) p is = absurd (cc (is))
-    waits-for Lost p is = absurd (cc (is))
-
-    takes-by : (q p : ℕ) (m : Option (Decoded Cause)) → take_answer k c q m ≡ Ok (turn.Took p) → q ≡ p
-    takes-by q p None is = absurd (cc (ok-is (turn.NotYet q) (turn.Took p) is))
-    takes-by q p (Some m) is = cc (took-by q (turn.Took p) (machine_takes k c q m).fault is)
-
-    takes-from : (a : Act M Cause) (p : ℕ) → answer_by k c whole a ≡ Some (Ok (turn.Took p)) → a ≡ Awaits p
-    takes-from (Works next) p is = absurd (cc (is))
-    takes-from (Sends q x next) p is = absurd (cc (is))
-    takes-from (Awaits q) p is = ap (λ i. Awaits i) (takes-by q p (whole q) (some-is _ _ is))
-    takes-from (Serves q next) p is = absurd (cc (is))
-    takes-from (Marks next) p is = absurd (cc (is))
-    takes-from Rests p is = absurd (cc (is))
-    takes-from (Fails q f) p is = absurd (cc (is))
-    takes-from Lost p is = absurd (cc (is))
-
-    done-halts : (a : Act M Cause) → answer_by k c whole a ≡ Some (Ok turn.Done) → outlook_of a ≡ HubHalts
-    done-halts (Works next) is = absurd (cc (is))
-    done-halts (Sends q x next) is = absurd (cc (is))
-    done-halts (Awaits q) is = absurd (not-acting q turn.Done (whole q) (some-is _ _ is) tt)
-    done-halts (Serves q next) is = absurd (cc (is))
-    done-halts (Marks next) is = absurd (cc (is))
-    done-halts Rests is = refl
-    done-halts (Fails q f) is = refl
-    done-halts Lost is = refl
-
-  -- What a turn takes and sends.
-
-  module _ (h : Taking M) (x : Streams) where
-    took-nothing : (a : Act M Cause) (r : After) → awaited a ≡ None → turned h x a ≡ Some r → r.0.taken ≡ h.taken
-    took-nothing (Works next) r none is = ap (λ (r : After). r.0.taken) (sym (some-is _ r is))
-    took-nothing (Sends p m next) r none is = ap (λ (r : After). r.0.taken) (sym (some-is _ r is))
-    took-nothing (Awaits p) r none is = absurd (absent p none)
-    took-nothing (Serves p next) r none is = ap (λ (r : After). r.0.taken) (sym (some-is _ r is))
-    took-nothing (Marks next) r none is = ap (λ (r : After). r.0.taken) (sym (some-is _ r is))
-    took-nothing Rests r none is = absurd (none-some r is)
-    took-nothing (Fails p f) r none is = absurd (none-some r is)
-    took-nothing Lost r none is = absurd (none-some r is)
-
-    take-quiet : (p : ℕ) (m : Option (Decoded Cause × ℕ)) (r : After)
-        → hub_after_take (machine_alone k packet_codec) h p m ≡ Some r → r.1 ≡ None
-    take-quiet p None r is = absurd (none-some r is)
-    take-quiet p (Some m) r is = ap (λ (r : After). r.1) (sym (some-is _ r is))
-
-    sends-nothing : (c : MachineEnd M Cause) (whole : ℕ → Option (Decoded Cause)) (a : Act M Cause) (answer : Answer) (r : After)
-        → answer_by k c whole a ≡ Some answer → ((p : ℕ) → answer ≡ Ok (turn.Sent p) → ⊥) → turned h x a ≡ Some r
-        → r.1 ≡ None
-    sends-nothing c whole (Works next) answer r answers other is = ap (λ (r : After). r.1) (sym (some-is _ r is))
-    sends-nothing c whole (Sends p m next) answer r answers other is =
-        absurd (other p (sym (some-is (Ok (turn.Sent p)) answer answers)))
-    sends-nothing c whole (Awaits p) answer r answers other is =
-        take-quiet p (first (drop (get_or h.taken p 0) (x p))) r is
-    sends-nothing c whole (Serves p next) answer r answers other is = ap (λ (r : After). r.1) (sym (some-is _ r is))
-    sends-nothing c whole (Marks next) answer r answers other is = ap (λ (r : After). r.1) (sym (some-is _ r is))
-    sends-nothing c whole Rests answer r answers other is = absurd (none-some r is)
-    sends-nothing c whole (Fails p f) answer r answers other is = absurd (none-some r is)
-    sends-nothing c whole Lost answer r answers other is = absurd (none-some r is)
-
-    sends-to : (c : MachineEnd M Cause) (whole : ℕ → Option (Decoded Cause)) (a : Act M Cause) (p : ℕ) (r : After)
-        → answer_by k c whole a ≡ Some (Ok (turn.Sent p)) → turned h x a ≡ Some r
-        → (bytes : List ℕ) × (r.1 ≡ Some (p, bytes))
-    sends-to c whole (Works next) p r answers is = absurd (cc (answers))
-    sends-to c whole (Sends q m next) p r answers is =
-        let same : q ≡ p = cc (answers) in
-        let sent = ap (λ (r : After). r.1) (sym (some-is _ r is)) in
-        (_, sent ∙ ap (λ i. Some (i, packet_codec.write m)) same)
-    sends-to c whole (Awaits q) p r answers is =
-        absurd (not-acting c whole q (turn.Sent p) (whole q) (some-is _ _ answers) tt)
-    sends-to c whole (Serves q next) p r answers is = absurd (cc (answers))
-    sends-to c whole (Marks next) p r answers is = absurd (cc (answers))
-    sends-to c whole Rests p r answers is = absurd (cc (answers))
-    sends-to c whole (Fails q f) p r answers is = absurd (cc (answers))
-    sends-to c whole Lost p r answers is = absurd (cc (answers))
 
   -- The same turn of the run over all that was received.
   record Also (x : Streams) (h : Taking M) (v : HubOutlook (MachineEnd M Cause) (Decoded Cause)) (r : After) : Type 0 where
@@ -376,12 +155,15 @@ module _ {M : Type 0} (k : MasterModel M) where
         → turn_of k e ≡ Some r → Took x new run.hub r.0.taken
     acted t new r acting answers keeps is =
         let a = machine_acts k (core_of e) in
-        let none = acts-none (core_of e) (whole-of e) a t answers acting in
-        let taken = took-nothing (before-turn e) (held_at e) a r none is in
+        let none = acts-none k (core_of e) (whole-of e) a t answers acting in
+        let taken = took-nothing k (before-turn e) (held_at e) a r none is in
         record {
           packets = λ kept p. unmoved p r.0.taken (ap (λ ts. get_or ts p 0) taken ∙ zeros (length e.ports) p);
           placed = subst (IsPlacedAt x) (sym keeps) tt;
         }
+
+    none-more : (n : ℕ) → ◌≡◌ {A = ℕ} (0 + n) n
+    none-more n = omega arith
 
     took-one : (q : ℕ) (m : Packet) (size : ℕ) (new : End M) (r : After) → first (held_at e q) ≡ Some (Valid m, size)
         → machine_acts k (core_of e) ≡ Awaits q → new.kept ≡ None → turn_of k e ≡ Some r → Took x new run.hub r.0.taken
@@ -393,7 +175,7 @@ module _ {M : Type 0} (k : MasterModel M) where
         ap (λ (s : After). get_or s.0.taken q 0) (sym same)
         ∙ get_or-set_same (replicate (length e.ports) 0) q (get_or (replicate (length e.ports) 0) q 0 + size) 0
         (subst (λ m. q < m) (sym (length-replicate (length e.ports) 0)) within)
-        ∙ ap (λ i. i + size) (zeros (length e.ports) q) in
+        ∙ ap (λ i. i + size) (zeros (length e.ports) q) ∙ none-more size in
         let had = run.packets clear q in
         let more = one_more packet_codec had.0 (get_or run.hub.taken q 0) (x q) m size had.1
         (ap first (sym (stands q within)) ∙ front) in
@@ -436,7 +218,7 @@ module _ {M : Type 0} (k : MasterModel M) where
   -- An end that waits keeps no fault and awaits a packet of the port, of which none is whole.
 
   waits-at : (e : End M) (p : ℕ) → IsWaiting k p e → (machine_acts k (core_of e) ≡ Awaits p) × (whole-of e p ≡ None)
-  waits-at e p waits = waits-for (core_of e) (whole-of e) (machine_acts k (core_of e)) p waits
+  waits-at e p waits = waits-for k (core_of e) (whole-of e) (machine_acts k (core_of e)) p waits
 
   none-first : (m : Option (Decoded Cause × ℕ)) → option_map (λ r. r.0) m ≡ None → m ≡ None
   none-first None is = refl
@@ -482,14 +264,14 @@ module _ {M : Type 0} (k : MasterModel M) where
         → ((r : After) → turn_of k old ≡ Some r → (clear : old.kept ≡ None) → (run : HasRun k start n x sent old)
         → Took x new run.hub r.0.taken)
         → HasRun k start n x sent old → HasRun k start n x later new
-    moved-run answer kept turn quiet more took run = by (turn_of k old) refl old.kept refl turn.goes
+    moved-run answer kept call quiet more took run = by (turn_of k old) refl old.kept refl call.goes
       where
-        by : (o : Option After) → turn_of k old ≡ o → (k : Option PortFault) → old.kept ≡ k → Goes o old new before after
-            → HasRun _ start n x later new
+        by : (o : Option After) → turn_of k old ≡ o → (had : Option PortFault) → old.kept ≡ had → Goes o old new before after
+            → HasRun k start n x later new
         by None is was goes_was goes = still-run goes.0 (quiet goes.1) run
         by (Some r) is (Some f) was goes = absurd (absent r (sym is ∙ halts-turn old (kept-halts old f was)))
         by (Some r) is None was goes =
-            turned-run start n x sent old was run later new before after r is goes turn.size
+            turned-run start n x sent old was run later new before after r is goes call.size
             (more r is was goes.2 run.size) (took r is was run)
 
     -- a turn that sends nothing
@@ -498,33 +280,33 @@ module _ {M : Type 0} (k : MasterModel M) where
         → ((r : After) → turn_of k old ≡ Some r → (clear : old.kept ≡ None) → (run : HasRun k start n x sent old)
         → Took x new run.hub r.0.taken)
         → HasRun k start n x sent old → HasRun k start n x later new
-    quiet-run answer kept turn other same took run =
-        moved-run answer kept turn (λ is. same)
+    quiet-run answer kept call other same took run =
+        moved-run answer kept call (λ is. same)
         (λ r is clear out size q.
         same q ∙ sym (append-nil (sent q)) ∙ ap (λ s. sent q ++ to_leaf n s (suc q))
-        (sym (sends-nothing (before-turn old) (held_at old) (core_of old) (whole-of old) (machine_acts k (core_of old)) answer r
-        turn.answers other is))) took run
+        (sym (sends-nothing k (before-turn old) (held_at old) (core_of old) (whole-of old) (machine_acts k (core_of old)) answer r
+        call.answers other is))) took run
 
     acting-run : (t : Turn) → IsTurn k old new before after (Ok t) None → IsActing t → ((p : ℕ) → t ≡ turn.Sent p → ⊥)
         → ((q : ℕ) → later q ≡ sent q) → HasRun k start n x sent old → HasRun k start n x later new
-    acting-run t turn acting other same run =
-        quiet-run (Ok t) None turn (λ p is. other p (ok-is t (turn.Sent p) is)) same
-        (λ r is clear run. acted start n x sent old clear run t new r acting turn.answers turn.keeps is) run
+    acting-run t call acting other same run =
+        quiet-run (Ok t) None call (λ p is. other p (ok-is t (turn.Sent p) is)) same
+        (λ r is clear run. acted start n x sent old clear run t new r acting call.answers call.keeps is) run
 
     sending-run : (p : ℕ) → IsTurn k old new before after (Ok (turn.Sent p)) None → (old.kept ≡ None → p < length old.ports)
         → Sent (Ok (turn.Sent p)) before after sent later → HasRun k start n x sent old → HasRun k start n x later new
-    sending-run p turn there grown run =
-        moved-run (Ok (turn.Sent p)) None turn
+    sending-run p call there grown run =
+        moved-run (Ok (turn.Sent p)) None call
         (λ same q. grown q ∙ ap (λ s. sent q ++ only_at p s q) (ap (drop (length before)) (same ∙ sym (append-nil before))
         ∙ drop_front before []) ∙ ap (λ s. sent q ++ s) (only-nothing p q) ∙ append-nil (sent q))
         (λ r is clear out size q.
-        let to = sends-to (before-turn old) (held_at old) (core_of old) (whole-of old) (machine_acts k (core_of old)) p r
-        turn.answers is in
+        let to = sends-to k (before-turn old) (held_at old) (core_of old) (whole-of old) (machine_acts k (core_of old)) p r
+        call.answers is in
         let bytes = ap (drop (length before)) (out ∙ ap (λ s. before ++ sent_by s) to.1) ∙ drop_front before to.0 in
         grown q ∙ ap (λ s. sent q ++ only_at p s q) bytes
         ∙ ap (λ s. sent q ++ s) (sent-there n p q to.0 (subst (λ m. p < m) size (there clear)))
         ∙ ap (λ s. sent q ++ to_leaf n s (suc q)) (sym to.1))
-        (λ r is clear run. acted start n x sent old clear run (turn.Sent p) new r tt turn.answers turn.keeps is) run
+        (λ r is clear run. acted start n x sent old clear run (turn.Sent p) new r tt call.answers call.keeps is) run
 
     call-run : (result : Result Turn TurnFault) → Turns k old new before after result
         → (old.kept ≡ None → IsAtFront old result) → Sent result before after sent later
@@ -536,7 +318,7 @@ module _ {M : Type 0} (k : MasterModel M) where
         (λ r is clear run.
         let m = front clear in
         took-one start n x sent old clear run p m.0 m.1 new r m.2
-        (takes-from (core_of old) (whole-of old) (machine_acts k (core_of old)) p call.answers) call.keeps is) run
+        (takes-from k (core_of old) (whole-of old) (machine_acts k (core_of old)) p call.answers) call.keeps is) run
     call-run (Ok (turn.Served p)) call front sends run = acting-run (turn.Served p) call tt (λ q is. cc (is)) sends run
     call-run (Ok turn.Marked) call front sends run = acting-run turn.Marked call tt (λ p is. cc (is)) sends run
     call-run (Ok (turn.NotYet p)) call front sends run =
@@ -571,7 +353,7 @@ module _ {M : Type 0} (k : MasterModel M) where
       rests-same old new (same-after old new before after (turn_of k old) (waits-turn p old call.answers) call.goes)
       (waits-rests p old call.answers (there p call.answers))
   call-all old new before after (Ok turn.Done) call there =
-      let halts = done-halts (core_of old) (whole-of old) (machine_acts k (core_of old)) call.answers in
+      let halts = done-halts k (core_of old) (whole-of old) (machine_acts k (core_of old)) call.answers in
       rests-same old new (same-after old new before after (turn_of k old) (halts-turn old halts) call.goes) (halts-rests old halts)
   call-all old new before after (Ok turn.Unit) call there = tt
   call-all old new before after (Ok (turn.Sent p)) call there = tt

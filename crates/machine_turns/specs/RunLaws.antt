@@ -28,10 +28,7 @@ use Rattle.device_turns.specs.Ends.{IsPlaced}
 use Rattle.machine_turns.specs.declared.fault.PortFault.{PortFault}
 use Rattle.machine_turns.specs.Runs.{Grown, IsRun, Taking, machine_alone, only_at}
 use Rattle.machine_turns.specs.Ends.{End, HasRun, IsPlacedAt, Received, RunsOn, core_of, fed_at, fresh, held_at, held_of, more, put, taken_at, taken_in}
-use Rattle.machine_turns.proofs.Turning.{some-not, there-some, unfaulty, zeros}
-
-some-is : {A : Type 0} (a b : A) → Some a ≡ Some b → a ≡ b
-some-is a b e = cc (e)
+use Rattle.machine_turns.specs.StepLaws.{some-is, some-not, there-some, unfaulty, zeros}
 
 module _ {M : Type 0} (k : MasterModel M) where
   -- a turn counts the bytes of as many ports
