@@ -70,7 +70,7 @@ impl<M: Master> Model for MachineCore<M> {
 }
 
 impl<M: Master> MachineCore<M> {
-    ghost use Rattle.std.specs.Prelude.{slice_get, is_some, map};
+    ghost use Rattle.std.specs.Prelude.{ℕ, slice_get, is_some, length, map};
     ghost use Rattle.ends_model.specs.World.{machine_start};
     ghost use Rattle.ends_model.specs.declared.ends.Phase.TheVariants as Phase;
     ghost use Rattle.ends_model.specs.MachineTurn.{PortEnd, machine_acts, at_port, greets, syncs, runs, works, accesses, finished, gathers, serves_held, met, answered, hold_request, machine_takes, first_true, is_unknown, is_due as is_boundary, is_last as is_end};
@@ -148,8 +148,10 @@ impl<M: Master> MachineCore<M> {
 
     /// The port of which a packet is awaited, where one is.
     pub fn awaits(&self) -> Option<u32>
-        ensures { result ≡ awaited (machine_acts M.model self.now.end) }
+        ensures is { result ≡ awaited (machine_acts M.model self.now.end) }
+        ensures there { (p : ℕ) → awaited (machine_acts M.model self.now.end) ≡ Some p → p < length self.now.end.ports }
     {
+        self.is_there();
         match self.phase {
             Phase::Meet { port } => Some(port),
             Phase::AnswerFrom { port, .. } => Some(port),
@@ -162,6 +164,13 @@ impl<M: Master> MachineCore<M> {
             Phase::SyncTo { .. } => None,
             Phase::Done => None,
         }
+    }
+
+    /// A port of which a packet is awaited is there.
+    fn is_there(&self)
+        ensures { (p : ℕ) → awaited (machine_acts M.model self.now.end) ≡ Some p → p < length self.now.end.ports }
+    {
+        let _tick = self.tick;
     }
 
     /// Takes a turn that takes no packet, and appends what it sends. Where a packet is awaited it says so. `NoMemory` leaves all as

@@ -1,7 +1,7 @@
 -- What each kind of turn leaves is what the definitions say.
 use Rattle.std.proofs.Common.{◌≡◌, ℕ, zero, suc, ◌+◌, ◌<◌, ◌≤◌, true, false, List, [], ◌∷◌, ◌++◌, length, drop, get_or, map, set, replicate, All, refl, sym, ap, ◌∙◌, subst, arith, Result, Ok, Err}
 use Rattle.std.specs.Prelude.{Option, Some, None, is_some, option_map, slice_get, OnOk}
-use Rattle.std.proofs.lemmas.List.{append-nil, map-set}
+use Rattle.std.proofs.lemmas.List.{append-nil, length-set, map-set}
 use Rattle.std.proofs.lemmas.Option.{slice_get-map, slice_get_within, get_or_from_slice_get, none-some, same_Some}
 use Rattle.process_network.specs.PacketStar.{HubEnd, hub_after_take, hub_turn_by, fresh_hub}
 use Rattle.cosim_model.specs.declared.session.EndFault.{EndFault}
@@ -23,7 +23,9 @@ use Rattle.machine_core.specs.Machines.{Core, Becomes, Does, awaited}
 use Rattle.machine_core.specs.declared.fault.HearFault.{HearFault}
 use Rattle.machine_core.specs.declared.fault.HearFault.TheVariants as hear
 use Rattle.machine_turns.specs.declared.fault.PortFault.{PortFault}
-use Rattle.machine_turns.specs.Ends.{End, Goes, Holds, IsOpen, IsTurn, Received, answer_of, core_of, fed_at, fresh, heard_fault, held_at, machine_alone, more, moves, port_cause, put, received, sent_by, taken_of}
+use Rattle.machine_turns.specs.Runs.{machine_alone}
+use Rattle.machine_turns.specs.StepLaws.{clear-core, some-not, there-some, unfaulty, zeros}
+use Rattle.machine_turns.specs.Ends.{End, Goes, Holds, IsOpen, IsTurn, Received, answer_of, core_of, fed_at, fresh, heard_fault, held_at, more, moves, port_cause, put, received, sent_by, taken_of}
 
 -- an end by what it is made of
 abbrev pub made : {M : Type 0} → MachineEnd M Cause → Option PortFault → List Frames → End M
@@ -32,11 +34,6 @@ made clear kept fs = record { clear = clear; kept = kept; ports = map received f
 -- Counts of bytes stand at most at their last value.
 abbrev pub Counted : List Received → Type 0
 Counted rs = (p : ℕ) (r : Received) → slice_get rs p ≡ Some r → r.taken ≤ 18446744073709551615
-
-pub there-some : {A : Type 0} (xs : List A) (p : ℕ) → p < length xs → (x : A) × (slice_get xs p ≡ Some x)
-there-some [] p within = absurd (omega arith)
-there-some (x ∷ xs) zero within = (x, refl)
-there-some (x ∷ xs) (suc p) within = there-some xs p (omega arith)
 
 mapped : {A B : Type 0} (f : A → B) (o : Option A) (y : B) → option_map f o ≡ Some y → (x : A) × (o ≡ Some x) × (y ≡ f x)
 mapped f None y e = absurd (none-some y e)
@@ -49,11 +46,6 @@ all-counted fs open_all p r e =
     let f_open = open_all p at.0 within in
     let most = subst IsOpen (get_or_from_slice_get fs p at.0 at.0 at.1) f_open in
     subst (λ x. x.taken ≤ 18446744073709551615) (sym at.2) most.1
-
-zeros : (n p : ℕ) → ◌≡◌ {A = ℕ} (get_or (replicate n 0) p 0) 0
-zeros zero p = refl
-zeros (suc n) zero = refl
-zeros (suc n) (suc p) = zeros n p
 
 taken-none : (r : Received) → r.taken ≤ 18446744073709551615 → r ≡ taken_of 0 r
 taken-none r most =
@@ -91,9 +83,6 @@ awaited-is Rests p e = absurd (none-some p e)
 awaited-is (Fails q f) p e = absurd (none-some p e)
 awaited-is Lost p e = absurd (none-some p e)
 
-some-not : {A : Type 0} (k : Option A) (a : A) → k ≡ Some a → k ≡ None → ⊥
-some-not k a is none = none-some a (sym none ∙ is)
-
 -- Bytes of a port are received.
 
 fed-framer : (bytes : List ℕ) (f g : Frames) → f.kept ≡ None → Feeds bytes f g → received g ≡ more bytes (received f)
@@ -124,15 +113,7 @@ none-of (Some a) is = absurd (cc (is))
 pub open-skipped : (f g : Frames) (size : ℕ) → g ≡ after_skip size f → IsOpen g
 open-skipped f g size is = subst IsOpen (sym is) (refl, omega arith)
 
-unfaulty : {M : Type 0} (c : MachineEnd M Cause) → c.fault ≡ None → c ≡ record c { fault = None }
-unfaulty c is = ap (λ (f : Option (ℕ × EndFault Cause)). record c { fault = f }) is
-
 module _ {M : Type 0} (k : MasterModel M) where
-  -- an end that keeps no fault
-  clear-core : (e : End M) → e.kept ≡ None → e.clear.fault ≡ None → core_of e ≡ e.clear
-  clear-core e kept clear =
-      ap (λ (f : Option PortFault). record e.clear { fault = option_map port_cause f }) kept ∙ sym (unfaulty e.clear clear)
-
   pub acts-at : (e : End M) (a : Act M Cause) → e.kept ≡ None → e.clear.fault ≡ None → machine_acts k e.clear ≡ a
       → machine_acts k (core_of e) ≡ a
   acts-at e a kept clear is = ap (machine_acts k) (clear-core e kept clear) ∙ is
@@ -145,10 +126,11 @@ module _ {M : Type 0} (k : MasterModel M) where
   turn-of : (e new : End M) (before after : List ℕ) (a : Act M Cause) (answer : Result Turn (ℕ × EndFault Cause))
       (kept : Option PortFault) → machine_acts k (core_of e) ≡ a
       → answer_by k (core_of e) (λ p. option_map (λ r. r.0) (first (held_at e p))) a ≡ Some answer → new.kept ≡ kept
-      → Goes (turn-by e a) e new before after → IsTurn k e new before after answer kept
-  turn-of e new before after a answer kept acts answers keeps goes = record {
+      → length new.ports ≡ length e.ports → Goes (turn-by e a) e new before after → IsTurn k e new before after answer kept
+  turn-of e new before after a answer kept acts answers keeps size goes = record {
     answers = ap (answer_by k (core_of e) (λ p. option_map (λ r. r.0) (first (held_at e p)))) acts ∙ answers;
     keeps = keeps;
+    size = size;
     goes = subst (λ x. Goes (turn-by e x) e new before after) (sym acts) goes;
   }
 
@@ -175,7 +157,7 @@ module _ {M : Type 0} (k : MasterModel M) where
       → answer_by k (core_of e) (λ p. option_map (λ r. r.0) (first (held_at e p))) a ≡ Some (Ok t) → n.end ≡ next
       → after ≡ before ++ sent_by sent → IsTurn k e new before after (Ok t) None
   moved e new n before after a next sent bytes t is acts turns answers end out =
-      turn-of e new before after a (Ok t) None acts answers is.new_kept
+      turn-of e new before after a (Ok t) None acts answers is.new_kept (ap (λ rs. length rs) is.ports)
       (subst (λ (o : Option (HubEnd (MachineEnd M Cause) × Option (ℕ × List ℕ))). Goes o e new before after) (sym turns) (
         follows-core e new n is ∙ end,
         holds-all e new (length e.ports) is.counts is.ports,
@@ -209,6 +191,7 @@ module _ {M : Type 0} (k : MasterModel M) where
       (does.2 ∙ sym (append-nil before))
   acted e new o n before after Rests t is old acts none does =
       turn-of e new before after Rests (Ok t) None acts (told t turn.Done does.0) is.new_kept
+      (ap (λ rs. length rs) is.ports)
       (same-end e new n o is does.1 old, does.2)
   acted e new o n before after (Fails p f) t is old acts none does = absurd does
   acted e new o n before after Lost t is old acts none does = absurd does
@@ -227,12 +210,13 @@ module _ {M : Type 0} (k : MasterModel M) where
       (answer : Result Turn (ℕ × EndFault Cause)) (kept : Option PortFault) → e.kept ≡ None → e.clear.fault ≡ None
       → awaited (machine_acts k e.clear) ≡ Some p → first (held_at e p) ≡ m
       → take_answer k (core_of e) p (option_map (λ r. r.0) m) ≡ answer → new.kept ≡ kept
-      → Goes (taken-by e p m) e new before after → IsTurn k e new before after answer kept
-  waited e new p m before after answer kept was clear awaits front answers keeps goes =
+      → length new.ports ≡ length e.ports → Goes (taken-by e p m) e new before after
+      → IsTurn k e new before after answer kept
+  waited e new p m before after answer kept was clear awaits front answers keeps size goes =
       turn-of e new before after (Awaits p) answer kept
       (acts-at e (Awaits p) was clear (awaited-is (machine_acts k e.clear) p awaits))
       (ap (λ (x : Option (Decoded Cause × ℕ)). Some (take_answer k (core_of e) p (option_map (λ r. r.0) x))) front
-      ∙ ap (λ x. Some x) answers) keeps
+      ∙ ap (λ x. Some x) answers) keeps size
       (subst (λ (o : Option (HubEnd (MachineEnd M Cause) × Option (ℕ × List ℕ))). Goes o e new before after)
       (sym (taking-at e p m front)) goes)
 
@@ -240,7 +224,8 @@ module _ {M : Type 0} (k : MasterModel M) where
       → awaited (machine_acts k e.clear) ≡ Some p → first (held_at e p) ≡ None
       → IsTurn k e e bytes bytes (Ok (turn.NotYet p)) None
   unready e p bytes kept clear awaits front =
-      waited e e p None bytes bytes (Ok (turn.NotYet p)) None kept clear awaits front refl kept (refl, refl)
+      waited e e p None bytes bytes (Ok (turn.NotYet p)) None kept clear awaits front refl kept refl
+      (refl, refl)
 
   takes-at : (e : End M) (p : ℕ) (m : Decoded Cause) → e.kept ≡ None → e.clear.fault ≡ None
       → machine_takes k e.clear p m ≡ machine_takes k (core_of e) p m
@@ -258,7 +243,8 @@ module _ {M : Type 0} (k : MasterModel M) where
       let none_taken = zeros n p in
       let size_is : size ≡ get_or (replicate n 0) p 0 + size = omega (arith, none_taken) in
       waited e new p (Some (Valid m, size)) bytes bytes (Ok (turn.Took p)) None kept clear awaits front
-      (ap (unless_faulty (turn.Took p)) fault) new_kept (
+      (ap (unless_faulty (turn.Took p)) fault) new_kept
+      (ap (λ rs. length rs) ports ∙ length-set e.ports p (taken_of size r)) (
         clear-core new new_kept new_clear ∙ core ∙ takes,
         λ none q. ap (λ rs. slice_get rs q) ports ∙ holds-taken e.ports p q size r there counts
             ∙ ap (λ s. option_map (taken_of (get_or (set (replicate n 0) p s) q 0)) (slice_get e.ports q)) size_is,
@@ -268,14 +254,15 @@ module _ {M : Type 0} (k : MasterModel M) where
   -- a packet after which the end keeps this fault
   faulted : (e new : End M) (p size : ℕ) (m : Decoded Cause) (f : PortFault) (bytes : List ℕ) → e.kept ≡ None
       → e.clear.fault ≡ None → awaited (machine_acts k e.clear) ≡ Some p → first (held_at e p) ≡ Some (m, size)
-      → new.kept ≡ Some f → record new.clear { fault = Some (port_cause f) } ≡ machine_takes k e.clear p m
+      → new.kept ≡ Some f → length new.ports ≡ length e.ports
+      → record new.clear { fault = Some (port_cause f) } ≡ machine_takes k e.clear p m
       → IsTurn k e new bytes bytes (Err (port_cause f)) (Some f)
-  faulted e new p size m f bytes kept clear awaits front new_kept core =
+  faulted e new p size m f bytes kept clear awaits front new_kept long core =
       let takes = takes-at e p m kept clear in
       let now = core ∙ takes in
       let fault = ap (λ (c : MachineEnd M Cause). c.fault) (sym now) in
       waited e new p (Some (m, size)) bytes bytes (Err (port_cause f)) (Some f) kept clear awaits front
-      (ap (unless_faulty (turn.Took p)) fault) new_kept (
+      (ap (unless_faulty (turn.Took p)) fault) new_kept long (
         ap (λ (x : Option PortFault). record new.clear { fault = option_map port_cause x }) new_kept ∙ now,
         λ none. absurd (some-not new.kept f new_kept none),
         sym (append-nil bytes),
@@ -283,37 +270,38 @@ module _ {M : Type 0} (k : MasterModel M) where
 
   refused : (e new : End M) (p size : ℕ) (m : Packet) (f : HearFault) (bytes : List ℕ) → e.kept ≡ None
       → e.clear.fault ≡ None → awaited (machine_acts k e.clear) ≡ Some p → first (held_at e p) ≡ Some (Valid m, size)
-      → new.kept ≡ Some (record { port = p; fault = heard_fault f })
+      → new.kept ≡ Some (record { port = p; fault = heard_fault f }) → length new.ports ≡ length e.ports
       → Becomes (machine_takes k e.clear p (Valid m)) new.clear p (Err f)
       → IsTurn k e new bytes bytes (Err (port_cause (record { port = p; fault = heard_fault f })))
       (Some (record { port = p; fault = heard_fault f }))
-  refused e new p size m (hear.Session f) bytes kept clear awaits front new_kept core =
-      faulted e new p size (Valid m) _ bytes kept clear awaits front new_kept core
-  refused e new p size m (hear.LateWant at got) bytes kept clear awaits front new_kept core =
-      faulted e new p size (Valid m) _ bytes kept clear awaits front new_kept core
+  refused e new p size m (hear.Session f) bytes kept clear awaits front new_kept long core =
+      faulted e new p size (Valid m) _ bytes kept clear awaits front new_kept long core
+  refused e new p size m (hear.LateWant at got) bytes kept clear awaits front new_kept long core =
+      faulted e new p size (Valid m) _ bytes kept clear awaits front new_kept long core
 
   -- the same, of a fault that was made of it
   pub refused-as : (e : End M) (clear : MachineEnd M Cause) (fs : List Frames) (p size : ℕ) (m : Packet) (f : HearFault)
       (x : EndFault PacketFault) (bytes : List ℕ) → e.kept ≡ None → e.clear.fault ≡ None
       → awaited (machine_acts k e.clear) ≡ Some p → first (held_at e p) ≡ Some (Valid m, size) → x ≡ heard_fault f
-      → Becomes (machine_takes k e.clear p (Valid m)) clear p (Err f)
+      → length (map received fs) ≡ length e.ports → Becomes (machine_takes k e.clear p (Valid m)) clear p (Err f)
       → IsTurn k e (made clear (Some (record { port = p; fault = x })) fs) bytes bytes
       (Err (port_cause (record { port = p; fault = x }))) (Some (record { port = p; fault = x }))
-  refused-as e clear fs p size m f x bytes kept core_clear awaits front is core =
+  refused-as e clear fs p size m f x bytes kept core_clear awaits front is long core =
       subst (λ (y : EndFault PacketFault). IsTurn k e (made clear (Some (record { port = p; fault = y })) fs) bytes bytes
       (Err (port_cause (record { port = p; fault = y }))) (Some (record { port = p; fault = y }))) (sym is)
       (refused e (made clear (Some (record { port = p; fault = heard_fault f })) fs) p size m f bytes kept core_clear awaits
-      front refl core)
+      front refl long core)
 
   pub malformed : (e new : End M) (p size : ℕ) (f : PacketFault) (bytes : List ℕ) → e.kept ≡ None
       → e.clear.fault ≡ None → awaited (machine_acts k e.clear) ≡ Some p
       → first (held_at e p) ≡ Some (Malformed f.cause, size) → p < length e.clear.ports
-      → new.kept ≡ Some (record { port = p; fault = fault.Malformed f }) → new.clear ≡ e.clear
+      → new.kept ≡ Some (record { port = p; fault = fault.Malformed f }) → length new.ports ≡ length e.ports
+      → new.clear ≡ e.clear
       → IsTurn k e new bytes bytes (Err (port_cause (record { port = p; fault = fault.Malformed f })))
       (Some (record { port = p; fault = fault.Malformed f }))
-  malformed e new p size f bytes kept clear awaits front within new_kept core =
+  malformed e new p size f bytes kept clear awaits front within new_kept long core =
       let there = there-some e.clear.ports p within in
-      faulted e new p size (Malformed f.cause) _ bytes kept clear awaits front new_kept
+      faulted e new p size (Malformed f.cause) _ bytes kept clear awaits front new_kept long
       (ap (λ (c : MachineEnd M Cause). record c { fault = Some (p, fault.Malformed f.cause) }) core
       ∙ ap (machine_hears_at k e.clear p (Malformed f.cause)) (sym there.1))
 

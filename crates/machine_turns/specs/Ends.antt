@@ -126,6 +126,7 @@ pub record IsTurn {M : Type 0} (k : MasterModel M) (old new : End M) (before aft
     (answer : Result Turn (ℕ × EndFault Cause)) (fault : Option PortFault) : Type 0 where
   pub answers : answer_of k old ≡ Some answer
   pub keeps : new.kept ≡ fault
+  pub size : length new.ports ≡ length old.ports
   pub goes : Goes (turn_of k old) old new before after
 
 -- A call of turn: the turn, or want of memory, and then end and output are as before.

@@ -1,2 +1,5 @@
 pub mod Runs
 pub mod Ends
+pub mod StepLaws
+pub mod RunLaws
+pub mod EndLaws

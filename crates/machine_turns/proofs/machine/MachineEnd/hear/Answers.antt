@@ -67,6 +67,6 @@ returns-in-Err-hear g c sent =
     (refused-as k (made i.core.end i.fault fs) c.hear.new.self.end fs p c.args.size m c.in-Err-hear.fault c.end_fault.result
     sent kept c.self.invariant.1
     (ap (λ e. awaited (machine_acts k e.clear)) c.self.view_is ∙ c.requires.awaited)
-    (ap (λ e. first (held_at e p)) c.self.view_is ∙ c.requires.front) c.end_fault.ensures
+    (ap (λ e. first (held_at e p)) c.self.view_is ∙ c.requires.front) c.end_fault.ensures refl
     (subst (λ h. Becomes (machine_takes k h p (Valid m)) c.hear.new.self.end p (Err c.in-Err-hear.fault))
     c.reserve_calls.ensures.end c.in-Err-hear.ensures.hears))

@@ -75,4 +75,4 @@ returns-in-Err-Malformed g c sent =
     (made i.core.end (Some (record { port = p; fault = fault.Malformed c.in-Err-Malformed.fault })) fs) p front.1
     c.in-Err-Malformed.fault sent (ap (λ e. e.kept) c.self.view_is ∙ c.requires.kept) c.self.invariant.1
     (ap (λ e. awaited (machine_acts k e.clear)) c.self.view_is ∙ c.requires.awaited)
-    (ap (λ o. first (held_of o)) (held-there fs p _ at) ∙ front.2) there refl refl)
+    (ap (λ o. first (held_of o)) (held-there fs p _ at) ∙ front.2) there refl refl refl)

@@ -12,6 +12,6 @@ returns-in-Some g c =
     let p = c.in-Some.port in
     let e = made i.core.end i.fault i.framers.items in
     let kept = none-of i.fault (cc (c.is_some.ensures, c.if-is_some.false)) in
-    let awaits = sym c.awaits.ensures ∙ c.in-Some.is in
+    let awaits = sym c.awaits.ensures.is ∙ c.in-Some.is in
     c.is_whole.ensures ∙ ap (λ e. is_some (first (held_at e p))) (sym c.self.view_is)
     ∙ sym (moves-awaiting k e p kept c.self.invariant.1 awaits) ∙ ap (λ e. moves (answer_of k e)) c.self.view_is
