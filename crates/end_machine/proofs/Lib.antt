@@ -3,3 +3,5 @@ mod TalkLaws
 mod WireLaws
 mod GoingLaws
 mod StepLaws
+mod DriveLaws
+mod HonestLaws

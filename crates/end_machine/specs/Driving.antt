@@ -11,11 +11,12 @@ use Rattle.cosim_model.specs.declared.session.EndFault.{EndFault}
 use Rattle.cosim_model.specs.declared.session.EndFault.TheVariants as fault
 use Rattle.cosim_model.specs.declared.values.Plan.{Plan}
 use Rattle.cosim_model.specs.Parts.{DeviceModel, MasterModel}
-use Rattle.cosim_model.specs.Direct.{direct}
 use Rattle.ends_model.specs.MachineTurn.{MachineEnd}
 use Rattle.ends_model.specs.World.{Side}
+use Rattle.every_schedule.specs.Schedules.{directly}
 use Rattle.rp_packet.specs.declared.fault.Cause.{Cause}
 use Rattle.rp_packet.specs.declared.fault.PacketFault.{PacketFault}
+use Rattle.rp_packet.specs.Streams.{packet_codec}
 use Rattle.machine_turns.specs.declared.fault.PortFault.{PortFault}
 use Rattle.machine_turns.specs.declared.fault.TurnFault.{TurnFault}
 use Rattle.machine_turns.specs.declared.fault.TurnFault.TheVariants as turn_fault
@@ -110,14 +111,14 @@ kept_by (Ok a) = None
 kept_by (Err turn_fault.NoMemory) = None
 kept_by (Err (turn_fault.Port f)) = Some f
 
--- The master, the calls and the ticks are those of the direct machine. Unless memory runs out or a link is to blame,
--- there is no fault.
+-- The master, the calls and the ticks are those of the direct machine of every_schedule.
 pub record IsDirect {M S : Type 0} (k : MasterModel M) (d : DeviceModel S) (plan : Plan) (m : M)
     (xs : List (Side × S)) (e : MachineEnd M Cause) : Type 0 where
-  pub master : e.master ≡ (direct k d plan m (map (λ (x : Side × S). x.1) xs)).master
-  pub calls : e.calls ≡ (direct k d plan m (map (λ (x : Side × S). x.1) xs)).calls
-  pub tick : e.tick ≡ (direct k d plan m (map (λ (x : Side × S). x.1) xs)).tick
+  pub master : e.master ≡ (directly k d packet_codec plan m xs).master
+  pub calls : e.calls ≡ (directly k d packet_codec plan m xs).calls
+  pub tick : e.tick ≡ (directly k d packet_codec plan m xs).tick
 
+-- Over honest links there is no fault, unless memory runs out or a link fails.
 abbrev pub EndsDirectly :
     {M S : Type 0} → MasterModel M → DeviceModel S → Plan → M → List (Side × S) → MachineEnd M Cause
     → Result Unit TurnFault → Type 0
