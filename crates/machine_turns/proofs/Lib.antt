@@ -1,2 +1,4 @@
+mod Fronts
 mod Ports
+mod Pulling
 mod Turning

@@ -85,7 +85,7 @@ awaited-is Lost p e = absurd (none-some p e)
 
 -- Bytes of a port are received.
 
-fed-framer : (bytes : List ℕ) (f g : Frames) → f.kept ≡ None → Feeds bytes f g → received g ≡ more bytes (received f)
+pub fed-framer : (bytes : List ℕ) (f g : Frames) → f.kept ≡ None → Feeds bytes f g → received g ≡ more bytes (received f)
 fed-framer bytes f g kept feeds =
     let fed : FedAt None bytes f g = subst (λ k. FedAt k bytes f g) kept feeds in
     ap (λ h. record { taken = g.taken; held = h }) fed.0 ∙ ap (λ n. record { taken = n; held = f.held ++ bytes }) fed.1

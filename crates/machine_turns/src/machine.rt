@@ -4,11 +4,11 @@ ghost use Rattle.std.specs.Prelude.{ℕ, List, ◌≡◌, ◌↔◌, ◌<◌, �
 use crate::fault::{PortFault, TurnFault, end_fault};
 use crate::framers::fresh_framers;
 use cos_api::{Calls, Master};
-use cos_base::{NoMemory, Octets};
+use cos_base::{Link, NoMemory, Octets};
 use cosim_model::Plan;
 use ends_model::Turn;
 use machine_core::{MOST_SENT, MachineCore};
-use rp_framing::{FrameFault, Framer};
+use rp_framing::{FrameFault, Framer, Pulled, ReceiveFault, pull};
 use rp_packet::Packet;
 use rp_session::EndFault;
 use std::alloc::Global;
@@ -47,7 +47,8 @@ impl<M: Master> MachineEnd<M> {
     ghost use Rattle.machine_core.specs.Machines.{awaited};
     ghost use Rattle.machine_turns.specs.declared.fault.PortFault.{PortFault};
     ghost use Rattle.machine_turns.specs.declared.fault.TurnFault.TheVariants as turn_fault;
-    ghost use Rattle.machine_turns.specs.Ends.{Turns, answer_of, fed_at, fresh, held_at, kept_after, moves};
+    ghost use Rattle.machine_turns.specs.Ends.{GoesOn, IsAtFront, IsWaiting, Pulls, RunsOn, SendsAll, Turns, answer_of, fed_at, fresh, held_at, kept_after, moves, taken_at};
+    ghost use Rattle.rp_framing.specs.Receiving.{ReceiveCounts, ReceiveSound};
 
     /// An end that has taken no turn and received nothing, with so many ports. It offers all capabilities, and needs none.
     pub fn make(alloc: Global, master: M, ports: u32, plan: Plan) -> Result<MachineEnd<M>, NoMemory>
@@ -97,12 +98,57 @@ impl<M: Master> MachineEnd<M> {
     pub fn feed(&mut self, port: u32, bytes: &[u8]) -> Result<(), NoMemory>
         ensures ok { OnOk result (self.new ≡ fed_at self.old.kept port bytes.now self.old) }
         ensures err { OnErr result (self.new ≡ self.old) }
+        ensures runs { OnOk result (RunsOn M.model port bytes.now self.old self.new) }
+    {
+        match self.hold(port, bytes) {
+            Ok(()) => Ok(()),
+            Err(NoMemory) => Err(NoMemory),
+        }
+    }
+
+    /// Holds bytes of a port that is there, unless a fault is kept.
+    fn hold(&mut self, port: u32, bytes: &[u8]) -> Result<(), NoMemory>
+        ensures ok { OnOk result (self.new ≡ fed_at self.old.kept port bytes.now self.old) }
+        ensures err { OnErr result (self.new ≡ self.old) }
     {
         let at = port as usize;
         if self.fault.is_some() || at >= self.framers.len() {
             return Ok(());
         }
         self.framers[at].feed(bytes)
+    }
+
+    /// Reads once from the link of a port, for an end that waits for bytes of that port, and takes in what came. It may wait for the
+    /// other side.
+    pub fn pull<L: Link>(&mut self, port: u32, link: &mut L) -> Result<Pulled, ReceiveFault>
+        requires there { port < length self.old.ports }
+        requires waits { IsWaiting M.model port self.old }
+        ensures pulls { Pulls (L.told link.old) (L.told link.new) port self.old self.new result }
+        ensures counts { ReceiveCounts (L.count link.old) (L.count link.new) result }
+        ensures is_sound { L.sound link.old → L.sound link.new × ReceiveSound result }
+    {
+        let at = port as usize;
+        pull(&mut self.framers[at], link)
+    }
+
+    /// How many bytes of a port it holds that it didn't take.
+    pub fn held(&self, port: u32) -> usize
+        ensures { result ≡ length (held_at self.now port) }
+    {
+        match self.framers.get(port as usize) {
+            Some(framer) => framer.held(),
+            None => 0,
+        }
+    }
+
+    /// How many bytes of a port it has taken, up to 18,446,744,073,709,551,615.
+    pub fn taken(&self, port: u32) -> u64
+        ensures { result ≡ taken_at self.now port }
+    {
+        match self.framers.get(port as usize) {
+            Some(framer) => framer.taken(),
+            None => 0,
+        }
     }
 
     /// Keeps a fault of a port, so that each later turn answers it. Want of memory isn't kept.
@@ -142,6 +188,9 @@ impl<M: Master> MachineEnd<M> {
     pub fn turn(&mut self, out: &mut Octets) -> Result<Turn, TurnFault>
         ensures turns { Turns M.model self.old self.new out.old.bytes out.new.bytes result }
         ensures kept { (f : PortFault) → self.old.kept ≡ Some f → result ≡ Err (turn_fault.Port f) }
+        ensures front { self.old.kept ≡ None → IsAtFront self.old result }
+        ensures runs { GoesOn M.model self.old self.new out.old.bytes out.new.bytes result }
+        ensures all { SendsAll M.model result self.new }
     {
         if let Some(fault) = self.fault {
             return Err(TurnFault::Port(fault));
@@ -156,7 +205,8 @@ impl<M: Master> MachineEnd<M> {
     fn act(&mut self, out: &mut Octets) -> Result<Turn, TurnFault>
         requires kept { self.old.kept ≡ None }
         requires acts { awaited (machine_acts M.model self.old.clear) ≡ None }
-        ensures { Turns M.model self.old self.new out.old.bytes out.new.bytes result }
+        ensures turns { Turns M.model self.old self.new out.old.bytes out.new.bytes result }
+        ensures front { IsAtFront self.old result }
     {
         match out.reserve(MOST_SENT) {
             Ok(()) => {}
@@ -177,12 +227,11 @@ impl<M: Master> MachineEnd<M> {
     fn hear_front(&mut self, port: u32) -> Result<Turn, TurnFault>
         requires kept { self.old.kept ≡ None }
         requires awaited { awaited (machine_acts M.model self.old.clear) ≡ Some port }
-        ensures { (sent : List ℕ) → Turns M.model self.old self.new sent sent result }
+        requires there { port < length self.old.ports }
+        ensures turns { (sent : List ℕ) → Turns M.model self.old self.new sent sent result }
+        ensures front { IsAtFront self.old result }
     {
         let at = port as usize;
-        if at >= self.framers.len() {
-            return Ok(Turn::NotYet { port });
-        }
         match self.framers[at].front() {
             Ok(None) => Ok(Turn::NotYet { port }),
             Ok(Some((packet, size))) => self.hear(port, packet, size),
@@ -206,7 +255,8 @@ impl<M: Master> MachineEnd<M> {
         requires front { first (held_at self.old port) ≡ Some (Valid (value_of packet), size) }
         requires within { size ≤ length (held_at self.old port) }
         requires read { IsRead (value_of packet) }
-        ensures { (sent : List ℕ) → Turns M.model self.old self.new sent sent result }
+        ensures turns { (sent : List ℕ) → Turns M.model self.old self.new sent sent result }
+        ensures front { IsAtFront self.old result }
     {
         match self.core.reserve_calls() {
             Ok(()) => {}

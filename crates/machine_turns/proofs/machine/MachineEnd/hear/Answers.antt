@@ -7,7 +7,8 @@ use Rattle.ends_model.specs.MachineTurn.{machine_acts, machine_takes}
 use Rattle.rp_packet.specs.Refusals.{first}
 use Rattle.rp_packet.specs.Values.{value_of}
 use Rattle.machine_core.specs.Machines.{Becomes, awaited}
-use Rattle.machine_turns.specs.Ends.{IsOpen, held_at, received}
+use Rattle.machine_turns.specs.Ends.{IsOpen, held_at, received, taken_at}
+use Rattle.machine_turns.proofs.Fronts.{heard-blamed}
 use Rattle.machine_turns.proofs.Ports.{hears-size}
 use Rattle.machine_turns.proofs.Turning.{all-counted, held-there, made, of-same, open-skipped, refused-as, took}
 use Rattle.machine_turns.proofs.machine.MachineEnd.hear.Goals as goal
@@ -22,8 +23,8 @@ invariant_of-self-in-Ok-hear g c =
           ∙ sym (hears-size g.M.Master.model c.reserve_calls.new.self c.hear.new.self p _ _ c.hear.ensures.hears),
     )
 
-pub returns-in-Ok-hear : goal.returns-in-Ok-hear
-returns-in-Ok-hear g c sent =
+pub returns-in-Ok-hear-clause-turns : goal.returns-in-Ok-hear-clause-turns
+returns-in-Ok-hear-clause-turns g c sent =
     let i = c.self.inside in
     let k = g.M.Master.model in
     let fs = i.framers.items in
@@ -55,8 +56,8 @@ invariant_of-self-in-Err-hear g c = (
       ∙ sym (hears-size g.M.Master.model c.reserve_calls.new.self c.hear.new.self c.args.port _ _ c.hear.ensures.hears),
 )
 
-pub returns-in-Err-hear : goal.returns-in-Err-hear
-returns-in-Err-hear g c sent =
+pub returns-in-Err-hear-clause-turns : goal.returns-in-Err-hear-clause-turns
+returns-in-Err-hear-clause-turns g c sent =
     let i = c.self.inside in
     let k = g.M.Master.model in
     let fs = i.framers.items in
@@ -70,3 +71,11 @@ returns-in-Err-hear g c sent =
     (ap (λ e. first (held_at e p)) c.self.view_is ∙ c.requires.front) c.end_fault.ensures refl
     (subst (λ h. Becomes (machine_takes k h p (Valid m)) c.hear.new.self.end p (Err c.in-Err-hear.fault))
     c.reserve_calls.ensures.end c.in-Err-hear.ensures.hears))
+
+pub returns-in-Ok-hear-clause-front : goal.returns-in-Ok-hear-clause-front
+returns-in-Ok-hear-clause-front g c = (value_of c.args.packet, c.args.size, c.requires.front)
+
+pub returns-in-Err-hear-clause-front : goal.returns-in-Err-hear-clause-front
+returns-in-Err-hear-clause-front g c =
+    heard-blamed (taken_at c.args.self.now c.args.port) (held_at c.args.self.now c.args.port) c.in-Err-hear.fault
+    c.end_fault.result c.end_fault.ensures
