@@ -26,11 +26,11 @@ use Rattle.machine_turns.specs.declared.fault.PortFault.{PortFault}
 use Rattle.machine_turns.specs.declared.fault.TurnFault.{TurnFault}
 use Rattle.machine_turns.specs.declared.fault.TurnFault.TheVariants as turn_fault
 use Rattle.machine_turns.specs.Runs.{Grown, IsRun, Rests, Taking, only_at}
-use Rattle.machine_turns.specs.Ends.{End, GoesOn, HasRun, IsAtRest, IsBlamedAt, IsPlacedAt, RunsOn, Sends, core_of, port_cause}
+use Rattle.machine_turns.specs.Ends.{End, GoesOn, HasRun, IsAtFront, IsAtRest, IsBlamedAt, IsPlacedAt, RunsOn, Sends, SendsAll, Turns, core_of, held_at, port_cause, taken_at}
 use Rattle.end_machine.specs.Wires.{AllTell, Said, received_of, received_on, said_of, said_on, sent_of, sent_on}
 use Rattle.end_machine.specs.Talk.{EndsSo, FailsSo, HasParts, IfLink}
 use Rattle.end_machine.specs.Driving.{IsAllRead, IsDriven, IsInTime, IsPartly, Leaves, Tells}
-use Rattle.end_machine.specs.Going.{AreSent, FinishesBy, Going, IsAtEnd, IsGoing, SendsOn, with_sent}
+use Rattle.end_machine.specs.Going.{AreSent, FinishesBy, Going, IsAtEnd, IsGoing, OnlyLink, SendsOn, port_of, with_sent}
 use Rattle.end_machine.proofs.TalkLaws.{sends-less}
 use Rattle.end_machine.proofs.WireLaws.{all-set, read-grows, read-said, read-sent, sent-grows, sent-received, sent-said, set-self, tell-at, tell-set, tell-size, there-some}
 
@@ -83,6 +83,24 @@ module _ {M : Type 0} (k : MasterModel M) (start : MachineEnd M Cause) (said : S
     run = subst (λ n. IsRun k start n (received_on ns) g.run.turns g.run.hub (sent_on ns)) (sym (tell-size now ns tell)) g.run.run;
     links = λ p n is. part-at e ns (sent_on ns) (λ p. IsPrefix-same (sent_on ns p)) now tell p _ refl n is;
   }
+
+  -- after a failure of a link, or for want of memory
+  pub part-leaves : (e : MachineEnd M Cause) (f : TurnFault) → OnlyLink {A = Unit {0}} (Err f) → (now : List (Option Wire))
+      → IsPartly k start now → Leaves k start said e (Err f) now
+  part-leaves e turn_fault.NoMemory only now part = part
+  part-leaves e (turn_fault.Port f) only now part = by f.port f.fault only
+    where
+      by : (p : ℕ) (x : EndFault PacketFault) → IfLink x (Unit {0}) ⊥
+          → Leaves k start said e (Err (turn_fault.Port (record { port = p; fault = x }))) now
+      by p (fault.Link count) only = part
+      by p (fault.Ended n) only = absurd only
+      by p (fault.Truncated a b) only = absurd only
+      by p (fault.Malformed f) only = absurd only
+      by p (fault.Session f) only = absurd only
+      by p (fault.LateWant at got) only = absurd only
+      by p (fault.TooMuch n) only = absurd only
+      by p (fault.Astray n) only = absurd only
+      by p fault.NoMemory only = absurd only
 
   -- all that a turn sends was sent
   sent-by : (e new : End M) (p : ℕ) (before out bytes : List ℕ) (ns : List Wire) (w : Wire)
@@ -190,6 +208,57 @@ module _ {M : Type 0} (k : MasterModel M) (start : MachineEnd M Cause) (said : S
   faulted e p (fault.Link n) taken held now kept blamed rests going = absurd blamed
   faulted e p (fault.Astray n) taken held now kept blamed rests going = absurd blamed
   faulted e p fault.NoMemory taken held now kept blamed rests going = absurd blamed
+
+  -- a turn that can't be taken, or that answers a fault
+  pub turn-fails : (e new : End M) (before out : List ℕ) (now : List (Option Wire)) (f : TurnFault) → e.kept ≡ None
+      → Turns k e new before out (Err f) → GoesOn k e new before out (Err f) → SendsAll k (Err f) new
+      → (e.kept ≡ None → IsAtFront e (Err f)) → Going k start said e now → Leaves k start said new.clear (Err f) now
+  turn-fails e new before out now turn_fault.NoMemory none call goes all front going = still e now going
+  turn-fails e new before out now (turn_fault.Port f) none call goes all front going =
+      faulted new f.port f.fault (taken_at e f.port) (held_at e f.port) now call.keeps (front none) all
+      (going-on e new before out now (Err (turn_fault.Port f)) (λ sent q. refl) goes going)
+
+  -- a turn that sends nothing, or all that it sends was sent
+
+  pub turn-quiet : (e new : End M) (before out : List ℕ) (now : List (Option Wire)) (t : Turn) → port_of t ≡ None
+      → GoesOn k e new before out (Ok t) → Going k start said e now → Going k start said new now
+  turn-quiet e new before out now turn.Unit quiet goes going =
+      going-on e new before out now (Ok turn.Unit) (λ sent q. refl) goes going
+  turn-quiet e new before out now (turn.Sent p) quiet goes going = absurd (none-some p (sym quiet))
+  turn-quiet e new before out now (turn.Took p) quiet goes going =
+      going-on e new before out now (Ok (turn.Took p)) (λ sent q. refl) goes going
+  turn-quiet e new before out now (turn.Served p) quiet goes going =
+      going-on e new before out now (Ok (turn.Served p)) (λ sent q. refl) goes going
+  turn-quiet e new before out now turn.Marked quiet goes going =
+      going-on e new before out now (Ok turn.Marked) (λ sent q. refl) goes going
+  turn-quiet e new before out now (turn.NotYet p) quiet goes going =
+      going-on e new before out now (Ok (turn.NotYet p)) (λ sent q. refl) goes going
+  turn-quiet e new before out now turn.Done quiet goes going =
+      going-on e new before out now (Ok turn.Done) (λ sent q. refl) goes going
+
+  sent-is : (t : Turn) (p : ℕ) → port_of t ≡ Some p → t ≡ turn.Sent p
+  sent-is turn.Unit p is = absurd (none-some p is)
+  sent-is (turn.Sent q) p is = ap (λ i. turn.Sent i) (same_Some q p is)
+  sent-is (turn.Took q) p is = absurd (none-some p is)
+  sent-is (turn.Served q) p is = absurd (none-some p is)
+  sent-is turn.Marked p is = absurd (none-some p is)
+  sent-is (turn.NotYet q) p is = absurd (none-some p is)
+  sent-is turn.Done p is = absurd (none-some p is)
+
+  pub turn-sent : (e new : End M) (before out bytes : List ℕ) (now after : List (Option Wire)) (t : Turn) (p : ℕ) → port_of t ≡ Some p
+      → p < length now → GoesOn k e new before out (Ok t) → bytes ≡ drop (length before) out
+      → SendsOn now after p bytes (Ok tt) → Going k start said e now → Going k start said new after
+  turn-sent e new before out bytes now after t p port within goes is sends going =
+      going-sent e new p before out bytes now after within
+      (subst (λ t. GoesOn k e new before out (Ok t)) (sent-is t p port) goes) is sends going
+
+  pub turn-part : (e new : End M) (before out bytes : List ℕ) (now after : List (Option Wire)) (t : Turn) (p : ℕ) (f : TurnFault)
+      → port_of t ≡ Some p → GoesOn k e new before out (Ok t) → bytes ≡ drop (length before) out
+      → SendsOn now after p bytes (Err f) → OnlyLink {A = Unit {0}} (Err f) → Going k start said e now
+      → Leaves k start said new.clear (Err f) after
+  turn-part e new before out bytes now after t p f port goes is sends only going =
+      part-leaves new.clear f only after (going-part e new p before out bytes now after f
+      (subst (λ t. GoesOn k e new before out (Ok t)) (sent-is t p port) goes) is sends going)
 
   -- a turn that answers that all is done
   pub done-leaves : (e : End M) (now : List (Option Wire)) → e.clear.phase ≡ Done → e.kept ≡ None → IsAtRest k e

@@ -1,6 +1,6 @@
 -- Over honest links driving ends as the direct machine does.
 use Rattle.std.proofs.Common.{◌≡◌, ℕ, zero, suc, List, ◌++◌, drop, length, get_or, refl, sym, ap, ◌∙◌, subst, Result, Ok, Err}
-use Rattle.std.specs.Prelude.{Option, Some, None}
+use Rattle.std.specs.Prelude.{Option, Some, None, slice_get}
 use Rattle.std.proofs.lemmas.Option.{none-some}
 use Rattle.process_network.specs.Network.{Streams}
 use Rattle.process_network.specs.PacketStar.{HubOutlook, fresh_hub, hub_after_take, hub_turn_by, star_of}
@@ -13,8 +13,8 @@ use Rattle.cosim_model.specs.Packets.{Decoded}
 use Rattle.cosim_model.specs.Parts.{DeviceModel, IsDevice, IsMaster, MasterModel}
 use Rattle.ends_model.specs.declared.ends.Phase.TheVariants.{Done}
 use Rattle.ends_model.specs.MachineTurn.{MachineEnd, machine_outlook}
-use Rattle.ends_model.specs.World.{Fit, Side, ends, machine_start}
-use Rattle.every_schedule.specs.Schedules.{IsDriven as IsDone, IsHonest}
+use Rattle.ends_model.specs.World.{Fit, Side, ends as both, machine_start}
+use Rattle.every_schedule.specs.Schedules.{IsDriven as IsDone, IsHonest, back_at}
 use Rattle.every_schedule.proofs.OverLinks.{over_links}
 use Rattle.rp_packet.specs.declared.fault.Cause.{Cause}
 use Rattle.rp_packet.specs.declared.fault.PacketFault.{PacketFault}
@@ -32,30 +32,30 @@ module _ {M S : Type 0} (k : MasterModel M) (d : DeviceModel S) where
   -- a machine end alone takes the turns of the one among device ends
 
   take-same : (h : Taking M) (p : ℕ) (o : Option (Decoded Cause × ℕ))
-      → hub_after_take (machine_alone k packet_codec) h p o ≡ hub_after_take (ends k d packet_codec) h p o
+      → hub_after_take (machine_alone k packet_codec) h p o ≡ hub_after_take (both k d packet_codec) h p o
   take-same h p None = refl
   take-same h p (Some m) = refl
 
   turn-same : (h : Taking M) (x : Streams) (v : HubOutlook (MachineEnd M Cause) (Decoded Cause))
-      → hub_turn_by (machine_alone k packet_codec) h x v ≡ hub_turn_by (ends k d packet_codec) h x v
+      → hub_turn_by (machine_alone k packet_codec) h x v ≡ hub_turn_by (both k d packet_codec) h x v
   turn-same h x (HubActs next None) = refl
   turn-same h x (HubActs next (Some m)) = refl
   turn-same h x (HubWaits p) = take-same h p (packet_codec.first (drop (get_or h.taken p 0) (x p)))
   turn-same h x HubHalts = refl
 
   hub-same : (h : Taking M) (x : Streams)
-      → (star_of (machine_alone k packet_codec)).hub_turn h x ≡ (star_of (ends k d packet_codec)).hub_turn h x
+      → (star_of (machine_alone k packet_codec)).hub_turn h x ≡ (star_of (both k d packet_codec)).hub_turn h x
   hub-same h x = turn-same h x (machine_outlook k h.core)
 
   run-same : (start : MachineEnd M Cause) (n : ℕ) (x : Streams) (turns : ℕ) (h : Taking M) (sent : Streams)
-      → IsRun k start n x turns h sent → IsHubRun (star_of (ends k d packet_codec)) n (fresh_hub start n) x turns h sent
+      → IsRun k start n x turns h sent → IsHubRun (star_of (both k d packet_codec)) n (fresh_hub start n) x turns h sent
   run-same start n x zero h sent run = run
   run-same start n x (suc turns) h sent run =
       (run.0, run.1, run.2, run-same start n x turns run.0 run.1 run.3, sym (hub-same run.0 x) ∙ run.4, run.5)
 
   talk-same : (start : MachineEnd M Cause) (n : ℕ) (said : Said) (rounds : ℕ) (x : Streams)
       → StarTalk (star_of (machine_alone k packet_codec)) n (fresh_hub start n) said rounds x
-      → StarTalk (star_of (ends k d packet_codec)) n (fresh_hub start n) said rounds x
+      → StarTalk (star_of (both k d packet_codec)) n (fresh_hub start n) said rounds x
   talk-same start n said zero x talk = talk
   talk-same start n said (suc r) x talk = (
     talk.0,
@@ -74,7 +74,8 @@ module _ {M S : Type 0} (k : MasterModel M) (d : DeviceModel S) where
         → Fit k d plan m xs → IsHonest k d packet_codec plan m xs said → EndsDirectly k d plan m xs e r
     done-directly said e r talk device master fit honest = by r talk.ends
       where
-        over : (h : IsDone k d packet_codec plan m xs talk.hub talk.sent) × _
+        over : IsDone k d packet_codec plan m xs talk.hub talk.sent
+            × ((p : ℕ) → talk.received p ≡ back_at k d packet_codec plan m xs p (slice_get xs p))
         over =
             (over_links k d packet_codec plan device master codec-laws m xs fit said honest).talk talk.rounds talk.received
             (talk-same (machine_start Cause m (length xs) plan) (length xs) said talk.rounds talk.received talk.talk) talk.turns talk.hub

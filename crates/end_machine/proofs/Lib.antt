@@ -1,6 +1,7 @@
 mod Measures
 mod TalkLaws
 mod WireLaws
+mod LinkLaws
 mod GoingLaws
 mod StepLaws
 mod DriveLaws

@@ -8,11 +8,14 @@ use Rattle.cos_base.specs.Links.{Wire}
 use Rattle.machine_turns.specs.Runs.{Grown, only_at}
 use Rattle.end_machine.specs.Wires.{AllTell, received_of, received_on, said_of, said_on, sent_of, sent_on}
 
-equal : (p q : ℕ) → nat_eq q p ≡ true → q ≡ p
+pub equal : (p q : ℕ) → nat_eq q p ≡ true → q ≡ p
 equal p q is = grind (arith, nat_tests)
 
-unequal : (p q : ℕ) → nat_eq q p ≡ false → q ≡ p → ⊥
+pub unequal : (p q : ℕ) → nat_eq q p ≡ false → q ≡ p → ⊥
 unequal p q is same = grind (arith, nat_tests)
+
+pub itself : (p : ℕ) → nat_eq p p ≡ true
+itself p = grind (arith, nat_tests)
 
 set-here : {A : Type 0} (xs : List A) (p : ℕ) (v w : A) → slice_get xs p ≡ Some w → slice_get (set xs p v) p ≡ Some v
 set-here [] p v w e = absurd (none-some w e)

@@ -8,6 +8,7 @@ use Rattle.cosim_model.specs.declared.session.EndFault.{EndFault}
 use Rattle.cosim_model.specs.declared.session.EndFault.TheVariants as fault
 use Rattle.cosim_model.specs.Parts.{MasterModel}
 use Rattle.ends_model.specs.declared.ends.Turn.{Turn}
+use Rattle.ends_model.specs.declared.ends.Turn.TheVariants as turn
 use Rattle.ends_model.specs.MachineTurn.{MachineEnd, machine_acts}
 use Rattle.rp_framing.specs.declared.receiver.Pulled.{Pulled}
 use Rattle.rp_framing.specs.declared.receiver.Pulled.TheVariants as pulled
@@ -20,6 +21,7 @@ use Rattle.machine_turns.specs.Runs.{only_at}
 use Rattle.machine_core.specs.Machines.{awaited}
 use Rattle.machine_turns.specs.Ends.{End, HasRun, IsTurn, core_of, fed_at, held_at, taken_at}
 use Rattle.end_machine.specs.Wires.{AllTell, Said, received_on, said_on, sent_on}
+use Rattle.end_machine.specs.Talk.{IfLink}
 use Rattle.end_machine.specs.Driving.{IsInTime, Leaves, Tells}
 
 -- links that say this, over which the end was driven so far
@@ -112,3 +114,19 @@ abbrev pub Fed : {M : Type 0} → ℕ → End M → End M → Result Pulled Turn
 Fed p old new (Ok pulled.More) = (piece : List ℕ) × (1 ≤ length piece) × (new ≡ fed_at None p piece old)
 Fed p old new (Ok pulled.End) = new ≡ old
 Fed p old new (Err f) = new ≡ old
+
+-- the port that a turn sends to
+abbrev pub port_of : Turn → Option ℕ
+port_of (turn.Sent p) = Some p
+port_of turn.Unit = None
+port_of (turn.Took p) = None
+port_of (turn.Served p) = None
+port_of turn.Marked = None
+port_of (turn.NotYet p) = None
+port_of turn.Done = None
+
+-- unless memory ran out, a link is blamed
+abbrev pub OnlyLink : {A : Type 0} → Result A TurnFault → Type 0
+OnlyLink (Ok a) = Unit {0}
+OnlyLink (Err turn_fault.NoMemory) = Unit {0}
+OnlyLink (Err (turn_fault.Port f)) = IfLink f.fault (Unit {0}) ⊥

@@ -1,4 +1,184 @@
 // A machine end over its links.
+ghost use Rattle.std.specs.Prelude.{◌≡◌, ◌<◌, ◌≤◌, All, IfOk, IfSome, Option, Some, None, Ok, List, ℕ, length, map, slice_get};
+ghost use Rattle.cos_base.specs.Links.{Wire, IsFresh};
+ghost use Rattle.cosim_model.specs.declared.values.Plan.{Plan};
+ghost use Rattle.ends_model.specs.World.{Fit, Side, machine_start};
+ghost use Rattle.every_schedule.specs.Schedules.{IsHonest};
+ghost use Rattle.rp_packet.specs.declared.fault.Cause.{Cause};
+ghost use Rattle.rp_packet.specs.Streams.{packet_codec};
+ghost use Rattle.machine_turns.specs.Ends.{IsWaiting, SendsAll, fresh};
+ghost use Rattle.end_machine.specs.Wires.{AllTell, Said, said_on};
+ghost use Rattle.end_machine.specs.Talk.{ByTalk};
+ghost use Rattle.end_machine.specs.Driving.{DriveCounts, EndsDirectly, Leaves, NotLink, kept_by};
+ghost use Rattle.end_machine.specs.Going.{Fed, FinishesBy, Going, KeptInRun, OnlyLink, ReadsOn, SendsOn, Settles, Turned, port_of};
 
-/// Nothing yet.
-pub fn drive() {}
+use cos_api::{Device, Master};
+use cos_base::{Link, NoMemory, Octets};
+use machine_turns::{MachineEnd, PortFault, Turn, TurnFault};
+use rp_framing::{Pulled, ReceiveFault, SendFault, send};
+use rp_session::EndFault;
+use std::alloc::Global;
+
+/// Sends bytes on the link of a port.
+fn send_on<L: Link>(links: &mut [L], port: u32, bytes: &[u8]) -> Result<(), TurnFault>
+    requires there { port < length links.old }
+    ensures counts { DriveCounts (map L.count links.old) (map L.count links.new) result }
+    ensures is_sound { All L.sound links.old → All L.sound links.new × NotLink result }
+    ensures sends { SendsOn (map L.told links.old) (map L.told links.new) port bytes.now result }
+    ensures blames { OnlyLink result }
+{
+    match send(bytes, &mut links[port as usize]) {
+        Ok(()) => Ok(()),
+        Err(SendFault::Link { count }) => Err(TurnFault::Port(PortFault {
+            port,
+            fault: EndFault::Link { count },
+        })),
+        Err(SendFault::NoMemory) => Err(TurnFault::NoMemory),
+    }
+}
+
+/// The port that a turn sends to, if it sends.
+fn sent_port(turn: Turn) -> Option<u32>
+    ensures { result ≡ port_of turn }
+{
+    match turn {
+        Turn::Sent { port } => Some(port),
+        _ => None,
+    }
+}
+
+/// Takes one turn, and sends what it sends.
+fn step<M: Master, L: Link>(
+    end: &mut MachineEnd<M>,
+    links: &mut [L],
+    out: &mut Octets,
+) -> Result<Turn, TurnFault>
+    requires kept { end.old.kept ≡ None }
+    requires ports { length links.old ≡ length end.old.ports }
+    ensures ports { length links.new ≡ length end.new.ports }
+    ensures kept { KeptInRun result end.new.kept }
+    ensures turned { IfOk result (λ t. Turned M.model end.old end.new t) }
+    ensures rests { IfOk result (λ t. SendsAll M.model (Ok t) end.new) }
+    ensures counts { DriveCounts (map L.count links.old) (map L.count links.new) result }
+    ensures is_sound { All L.sound links.old → All L.sound links.new × NotLink result }
+    ensures goes { (m : M) (plan : Plan) (said : Said) → Going M.model (machine_start Cause m (length links.old) plan) said end.old (map L.told links.old) →
+        Settles M.model (machine_start Cause m (length links.old) plan) said end.new (map L.told links.new) result }
+{
+    out.clear();
+    let turn = match end.turn(out) {
+        Ok(turn) => turn,
+        Err(fault) => return Err(fault),
+    };
+    match sent_port(turn) {
+        Some(port) => match send_on(links, port, out.as_slice()) {
+            Ok(()) => Ok(turn),
+            Err(fault) => Err(fault),
+        },
+        None => Ok(turn),
+    }
+}
+
+/// Reads once from the link of a port, for an end that waits for bytes of it.
+fn read_on<M: Master, L: Link>(
+    end: &mut MachineEnd<M>,
+    links: &mut [L],
+    port: u32,
+) -> Result<Pulled, TurnFault>
+    requires there { port < length end.old.ports }
+    requires ports { length links.old ≡ length end.old.ports }
+    requires waits { IsWaiting M.model port end.old }
+    ensures ports { length links.new ≡ length end.new.ports }
+    ensures kept { KeptInRun result end.new.kept }
+    ensures fed { Fed port end.old end.new result }
+    ensures counts { DriveCounts (map L.count links.old) (map L.count links.new) result }
+    ensures is_sound { All L.sound links.old → All L.sound links.new × NotLink result }
+    ensures goes { (m : M) (plan : Plan) (said : Said) → Going M.model (machine_start Cause m (length links.old) plan) said end.old (map L.told links.old) →
+        ReadsOn M.model (machine_start Cause m (length links.old) plan) said port end.new (map L.told links.new) result }
+{
+    match end.pull(port, &mut links[port as usize]) {
+        Ok(pulled) => Ok(pulled),
+        Err(ReceiveFault::Link { count }) => Err(TurnFault::Port(PortFault {
+            port,
+            fault: EndFault::Link { count },
+        })),
+        Err(ReceiveFault::NoMemory) => Err(TurnFault::NoMemory),
+        Err(ReceiveFault::Malformed(_)) => unreachable!(),
+        Err(ReceiveFault::Truncated(_)) => unreachable!(),
+    }
+}
+
+/// How the stream of an awaited port ends for an end that has taken every turn.
+fn finish<M: Master>(end: &MachineEnd<M>, port: u32) -> EndFault
+    ensures { FinishesBy end.now port result }
+{
+    let held = end.held(port) as u64;
+    let taken = end.taken(port);
+    if held > 0 {
+        EndFault::Truncated { start: taken, held }
+    } else {
+        EndFault::Ended { taken }
+    }
+}
+
+/// Takes turns and reads what they wait for, until all is done or a fault comes.
+fn run<M: Master, L: Link>(
+    end: &mut MachineEnd<M>,
+    links: &mut [L],
+    out: &mut Octets,
+) -> Result<(), TurnFault>
+    requires fresh { end.old ≡ fresh (machine_start Cause end.old.clear.master (length links.old) end.old.clear.plan) (length links.old) }
+    requires unused { (p : ℕ) (w : Wire) → slice_get (map L.told links.old) p ≡ Some (Some w) → IsFresh w }
+    ensures kept { KeptInRun result end.new.kept }
+    ensures counts { DriveCounts (map L.count links.old) (map L.count links.new) result }
+    ensures is_sound { All L.sound links.old → All L.sound links.new × NotLink result }
+    ensures leaves { (ws : List Wire) → AllTell (map L.told links.old) ws → Leaves M.model end.old.clear (said_on ws) end.new.clear result (map L.told links.new) }
+{
+    'turns: loop {
+        match step(end, links, out) {
+            Ok(Turn::Done) => return Ok(()),
+            Ok(Turn::NotYet { port }) => match read_on(end, links, port) {
+                Ok(Pulled::More) => {}
+                Ok(Pulled::End) => {
+                    let fault = finish(end, port);
+                    return Err(TurnFault::Port(PortFault { port, fault }));
+                }
+                Err(fault) => return Err(fault),
+            },
+            Ok(_) => {}
+            Err(fault) => return Err(fault),
+        }
+    }
+}
+
+/// Drives a fresh machine end over its links, one a port, on which nothing was sent or received, until its master's run is done or a
+/// fault comes. It may wait for the peers; it reads from the link of a port only while the end awaits a packet of it and holds none
+/// whole. The end keeps a fault with its port.
+///
+/// `honest` is the promise over links that give what device ends send: `D` is the kind of their devices, which the contract alone names.
+pub fn drive<M: Master, D: Device, L: Link>(
+    alloc: Global,
+    end: &mut MachineEnd<M>,
+    links: &mut [L],
+) -> Result<(), TurnFault>
+    requires fresh { end.old ≡ fresh (machine_start Cause end.old.clear.master (length links.old) end.old.clear.plan) (length links.old) }
+    requires unused { (p : ℕ) (w : Wire) → slice_get (map L.told links.old) p ≡ Some (Some w) → IsFresh w }
+    ensures counts { DriveCounts (map L.count links.old) (map L.count links.new) result }
+    ensures is_sound { All L.sound links.old → All L.sound links.new × NotLink result }
+    ensures keeps { end.new.kept ≡ kept_by result }
+    ensures leaves { (ws : List Wire) → AllTell (map L.told links.old) ws → Leaves M.model end.old.clear (said_on ws) end.new.clear result (map L.told links.new) }
+    ensures talk { (ws : List Wire) → AllTell (map L.told links.old) ws → ByTalk M.model end.old.clear (length ws) (said_on ws) end.new.clear result }
+    ensures honest { (ws : List Wire) (xs : List (Side × D)) → AllTell (map L.told links.old) ws → length xs ≡ length ws
+        → Fit M.model D.model end.old.clear.plan end.old.clear.master xs
+        → IsHonest M.model D.model packet_codec end.old.clear.plan end.old.clear.master xs (said_on ws)
+        → EndsDirectly M.model D.model end.old.clear.plan end.old.clear.master xs end.new.clear result }
+{
+    let mut out = Octets::make(alloc);
+    match run(end, links, &mut out) {
+        Ok(()) => Ok(()),
+        Err(TurnFault::Port(fault)) => {
+            end.keep(fault.port, fault.fault);
+            Err(TurnFault::Port(fault))
+        }
+        Err(TurnFault::NoMemory) => Err(TurnFault::NoMemory),
+    }
+}
