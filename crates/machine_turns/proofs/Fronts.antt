@@ -1,5 +1,5 @@
 -- What stands at the front of a port's bytes at a turn, and that each port that a turn speaks of is there.
-use Rattle.std.proofs.Common.{◌≡◌, ℕ, ◌<◌, ◌≤◌, Bool, true, false, List, [], ◌∷◌, length, map, refl, sym, ap, ◌∙◌, subst, arith, Ok}
+use Rattle.std.proofs.Common.{◌≡◌, ℕ, ◌<◌, Bool, true, false, List, [], ◌∷◌, length, map, refl, sym, ap, ◌∙◌, subst, arith, Ok}
 use Rattle.std.specs.Prelude.{Option, Some, None, slice_get}
 use Rattle.std.proofs.lemmas.List.{length-map}
 use Rattle.std.proofs.lemmas.Option.{none-some, slice_get_within}
@@ -12,7 +12,6 @@ use Rattle.cosim_model.specs.Sessions.{is_posted}
 use Rattle.ends_model.specs.declared.ends.Phase.{Phase}
 use Rattle.ends_model.specs.declared.ends.Phase.TheVariants.{Greet, Meet, Run, AnswerFrom, SyncTo, Gather, Done}
 use Rattle.ends_model.specs.declared.ends.Turn.{Turn}
-use Rattle.ends_model.specs.declared.ends.Turn.TheVariants as turn
 use Rattle.ends_model.specs.MachineTurn.{Act, PortEnd, MachineEnd, accesses, acts_in, acts_unless, at_port, first_true, gathers, greets, held_time, is_due, is_unknown, machine_acts, runs, serves, serves_held, serves_least, syncs, works}
 use Rattle.ends_model.specs.MachineTurn.Act.{Works, Sends, Awaits, Serves, Marks, Rests, Fails, Lost}
 use Rattle.rp_framing.specs.Framing.{Frames}

@@ -1,5 +1,5 @@
 -- One read, seen at the end that it was for.
-use Rattle.std.proofs.Common.{◌≡◌, ℕ, ◌++◌, List, [], length, map, set, refl, sym, ap, ◌∙◌, subst, Result, Ok, Err}
+use Rattle.std.proofs.Common.{◌≡◌, ℕ, List, [], map, set, sym, ap, ◌∙◌, Result, Ok, Err}
 use Rattle.std.specs.Prelude.{Option, Some, None, ◌||◌, is_some, slice_get, false}
 use Rattle.std.proofs.lemmas.List.{append-nil, map-set}
 use Rattle.cos_base.specs.Links.{Wire}

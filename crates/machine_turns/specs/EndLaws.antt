@@ -1,39 +1,33 @@
 -- A machine end that was fed pieces and took turns stands within a run over all that it was fed.
-use Rattle.std.proofs.Common.{◌≡◌, inl, inr, ◌⊎◌, ℕ, zero, suc, ◌+◌, ◌<◌, ◌≤◌, Bool, true, false, List, [], ◌∷◌, ◌++◌, length, drop, get_or, set, replicate, refl, sym, ap, ◌∙◌, subst, arith, Result, Ok, Err}
-use Rattle.std.specs.Prelude.{Option, Some, None, min, nat_eq, nat_lt, if◌then◌else◌, option_map, slice_get}
-use Rattle.std.proofs.lemmas.Bool.{cases_eq, eq-eqb, eqb-false, eqb-true, lt-ltb, ne_eqb}
+use Rattle.std.proofs.Common.{◌≡◌, inl, inr, ℕ, suc, ◌+◌, ◌<◌, List, [], ◌∷◌, ◌++◌, length, drop, get_or, set, replicate, refl, sym, ap, ◌∙◌, subst, arith, Result, Ok, Err}
+use Rattle.std.specs.Prelude.{Option, Some, None, option_map, slice_get}
+use Rattle.std.proofs.lemmas.Bool.{cases_eq}
 use Rattle.std.proofs.lemmas.List.{append-nil, drop-drop, get_or-set_other, get_or-set_same, length-replicate}
-use Rattle.std.proofs.lemmas.Option.{none-some, same_Some, slice_get_within}
-use Rattle.process_network.specs.Network.{Streams, only}
+use Rattle.std.proofs.lemmas.Option.{none-some}
+use Rattle.process_network.specs.Network.{Streams}
 use Rattle.process_network.specs.PacketStar.{HubOutlook, fresh_hub, hub_after_take, hub_turn_by}
 use Rattle.process_network.specs.PacketStar.HubOutlook.{HubActs, HubWaits, HubHalts}
 use Rattle.process_network.specs.Star.{to_leaf}
 use Rattle.process_network.proofs.PacketRuns.{drop_front}
-use Rattle.cosim_model.specs.declared.session.EndFault.{EndFault}
-use Rattle.cosim_model.specs.declared.session.EndFault.TheVariants as fault
 use Rattle.cosim_model.specs.Packets.{Packet, Decoded}
-use Rattle.cosim_model.specs.Packets.Decoded.{Valid, Malformed}
+use Rattle.cosim_model.specs.Packets.Decoded.{Valid}
 use Rattle.cosim_model.specs.Parts.{MasterModel}
 use Rattle.cosim_model.specs.Streams.{HasTaken}
 use Rattle.cosim_model.proofs.Streams.{one_more}
 use Rattle.ends_model.specs.declared.ends.Turn.{Turn}
 use Rattle.ends_model.specs.declared.ends.Turn.TheVariants as turn
-use Rattle.ends_model.specs.Answers.{answer_by, take_answer, unless_faulty}
 use Rattle.ends_model.specs.MachineTurn.{Act, MachineEnd, acts_unless, machine_acts, machine_outlook, machine_takes, outlook_of}
-use Rattle.ends_model.specs.MachineTurn.Act.{Works, Sends, Awaits, Serves, Marks, Rests, Fails, Lost}
+use Rattle.ends_model.specs.MachineTurn.Act.{Awaits}
 use Rattle.rp_packet.specs.declared.fault.Cause.{Cause}
-use Rattle.rp_packet.specs.declared.fault.PacketFault.{PacketFault}
-use Rattle.rp_packet.specs.Reading.{fault_at}
 use Rattle.rp_packet.specs.Refusals.{first}
 use Rattle.rp_packet.specs.Streams.{packet_codec}
 use Rattle.rp_framing.specs.Framing.{counted}
-use Rattle.device_turns.specs.Ends.{IsPlaced}
 use Rattle.machine_core.specs.Machines.{awaited}
 use Rattle.machine_turns.specs.declared.fault.PortFault.{PortFault}
 use Rattle.machine_turns.specs.declared.fault.TurnFault.{TurnFault}
 use Rattle.machine_turns.specs.declared.fault.TurnFault.TheVariants as turn_fault
-use Rattle.machine_turns.specs.Runs.{Rests as AtRest, Taking, machine_alone, only_at}
-use Rattle.machine_turns.specs.Ends.{End, Goes, GoesOn, HasRun, Holds, IsAtFront, IsAtRest, IsBlamedAt, IsPlacedAt, IsTurn, IsWaiting, Received, Sends as Sent, SendsAll, Turns, answer_of, core_of, held_at, held_of, port_cause, sent_by, taken_at, taken_in, taken_of, turn_of}
+use Rattle.machine_turns.specs.Runs.{Taking, machine_alone, only_at}
+use Rattle.machine_turns.specs.Ends.{End, Goes, GoesOn, HasRun, IsAtFront, IsAtRest, IsBlamedAt, IsPlacedAt, IsTurn, IsWaiting, Sends as Sent, SendsAll, Turns, answer_of, core_of, held_at, held_of, port_cause, sent_by, taken_at, taken_in, taken_of, turn_of}
 use Rattle.machine_turns.specs.RunLaws.{run-on, run-size, sent-stays}
 use Rattle.machine_turns.specs.StepLaws.{Answer, IsActing, absent, acts-none, clear-core, counted-more, done-halts, front-there, held-after, ok-is, only-nothing, placed-fault, sends-nothing, sends-to, sent-there, set-adds, some-is, some-not, takes-from, there-some, took-nothing, waits-for, zeros}
 
@@ -183,11 +177,11 @@ module _ {M : Type 0} (k : MasterModel M) where
           packets = λ kept p.
               elim (cases_eq p q) as (λ _. HasTaken packet_codec (x p) (get_or run.hub.taken p 0 + get_or r.0.taken p 0) None) [
                 | inl equal ↦ subst (λ i. HasTaken packet_codec (x i) (get_or run.hub.taken i 0 + get_or r.0.taken i 0) None)
-                (sym equal) (subst (λ i. HasTaken packet_codec (x q) (get_or run.hub.taken q 0 + i) None) (sym here)
-                (had.0 ++ m ∷ [], more))
+                    (sym equal) (subst (λ i. HasTaken packet_codec (x q) (get_or run.hub.taken q 0 + i) None) (sym here)
+                    (had.0 ++ m ∷ [], more))
                 | inr apart ↦ unmoved p r.0.taken (ap (λ (s : After). get_or s.0.taken p 0) (sym same)
-                ∙ get_or-set_other (replicate (length e.ports) 0) q p (get_or (replicate (length e.ports) 0) q 0 + size) 0 apart
-                ∙ zeros (length e.ports) p)
+                    ∙ get_or-set_other (replicate (length e.ports) 0) q p (get_or (replicate (length e.ports) 0) q 0 + size) 0 apart
+                    ∙ zeros (length e.ports) p)
               ];
           placed = subst (IsPlacedAt x) (sym keeps) tt;
         }

@@ -1,25 +1,23 @@
 -- One turn of a machine end: what its answer shows, what it takes, and what it sends.
-use Rattle.std.proofs.Common.{◌≡◌, inl, inr, ◌⊎◌, ℕ, zero, suc, ◌+◌, ◌<◌, ◌≤◌, Bool, true, false, List, [], ◌∷◌, ◌++◌, length, drop, get_or, set, replicate, refl, sym, ap, ◌∙◌, subst, arith, Result, Ok, Err}
-use Rattle.std.specs.Prelude.{Option, Some, None, min, nat_eq, nat_lt, if◌then◌else◌, option_map, slice_get}
+use Rattle.std.proofs.Common.{◌≡◌, inl, inr, ◌⊎◌, ℕ, zero, suc, ◌+◌, ◌<◌, Bool, true, false, List, [], ◌∷◌, length, drop, get_or, set, replicate, refl, sym, ap, ◌∙◌, subst, arith, Result, Ok}
+use Rattle.std.specs.Prelude.{Option, Some, None, nat_eq, if◌then◌else◌, option_map, slice_get}
 use Rattle.std.proofs.lemmas.Bool.{cases_eq, eq-eqb, eqb-false, eqb-true, lt-ltb, ne_eqb}
-use Rattle.std.proofs.lemmas.List.{append-nil, drop-drop, get_or-set_other, get_or-set_same, length-replicate}
-use Rattle.std.proofs.lemmas.Option.{none-some, same_Some, slice_get_within}
+use Rattle.std.proofs.lemmas.List.{get_or-set_other, get_or-set_same, length-replicate}
+use Rattle.std.proofs.lemmas.Option.{none-some, slice_get_within}
 use Rattle.process_network.specs.Network.{Streams, only}
-use Rattle.process_network.specs.PacketStar.{HubOutlook, fresh_hub, hub_after_take, hub_turn_by}
-use Rattle.process_network.specs.PacketStar.HubOutlook.{HubActs, HubWaits, HubHalts}
+use Rattle.process_network.specs.PacketStar.{hub_after_take, hub_turn_by}
+use Rattle.process_network.specs.PacketStar.HubOutlook.{HubHalts}
 use Rattle.process_network.specs.Star.{to_leaf}
-use Rattle.process_network.proofs.PacketRuns.{drop_front}
 use Rattle.cosim_model.specs.declared.session.EndFault.{EndFault}
 use Rattle.cosim_model.specs.declared.session.EndFault.TheVariants as fault
-use Rattle.cosim_model.specs.Packets.{Packet, Decoded}
-use Rattle.cosim_model.specs.Packets.Decoded.{Valid, Malformed}
+use Rattle.cosim_model.specs.Packets.{Decoded}
+use Rattle.cosim_model.specs.Packets.Decoded.{Malformed}
 use Rattle.cosim_model.specs.Parts.{MasterModel}
 use Rattle.cosim_model.specs.Streams.{HasTaken}
-use Rattle.cosim_model.proofs.Streams.{one_more}
 use Rattle.ends_model.specs.declared.ends.Turn.{Turn}
 use Rattle.ends_model.specs.declared.ends.Turn.TheVariants as turn
 use Rattle.ends_model.specs.Answers.{answer_by, take_answer, unless_faulty}
-use Rattle.ends_model.specs.MachineTurn.{Act, MachineEnd, acts_unless, machine_acts, machine_outlook, machine_takes, outlook_of}
+use Rattle.ends_model.specs.MachineTurn.{Act, MachineEnd, machine_takes, outlook_of}
 use Rattle.ends_model.specs.MachineTurn.Act.{Works, Sends, Awaits, Serves, Marks, Rests, Fails, Lost}
 use Rattle.rp_packet.specs.declared.fault.Cause.{Cause}
 use Rattle.rp_packet.specs.declared.fault.PacketFault.{PacketFault}
@@ -30,10 +28,8 @@ use Rattle.rp_framing.specs.Framing.{counted}
 use Rattle.device_turns.specs.Ends.{IsPlaced}
 use Rattle.machine_core.specs.Machines.{awaited}
 use Rattle.machine_turns.specs.declared.fault.PortFault.{PortFault}
-use Rattle.machine_turns.specs.declared.fault.TurnFault.{TurnFault}
-use Rattle.machine_turns.specs.declared.fault.TurnFault.TheVariants as turn_fault
-use Rattle.machine_turns.specs.Runs.{Rests as AtRest, Taking, machine_alone, only_at}
-use Rattle.machine_turns.specs.Ends.{End, Goes, GoesOn, HasRun, Holds, IsAtFront, IsAtRest, IsBlamedAt, IsPlacedAt, IsTurn, IsWaiting, Received, Sends as Sent, SendsAll, Turns, answer_of, core_of, held_at, held_of, port_cause, sent_by, taken_at, taken_in, taken_of, turn_of}
+use Rattle.machine_turns.specs.Runs.{Taking, machine_alone, only_at}
+use Rattle.machine_turns.specs.Ends.{End, IsBlamedAt, Received, core_of, held_at, held_of, port_cause, taken_of}
 
 pub some-is : {A : Type 0} (a b : A) → Some a ≡ Some b → a ≡ b
 some-is a b e = cc (e)

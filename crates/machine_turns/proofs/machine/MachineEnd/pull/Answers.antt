@@ -1,4 +1,4 @@
-use Rattle.std.proofs.Common.{refl, sym, ap, ◌≡◌, ◌<◌, ◌∙◌, arith, length, map, set, subst, None}
+use Rattle.std.proofs.Common.{refl, sym, ap, ◌≡◌, ◌<◌, ◌∙◌, arith, length, set, subst, None}
 use Rattle.std.proofs.lemmas.List.{length-map}
 use Rattle.std.proofs.lemmas.Option.{slice_get_read}
 use Rattle.rp_framing.specs.Framing.{Frames}
