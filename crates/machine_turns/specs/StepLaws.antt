@@ -1,5 +1,6 @@
 -- One turn of a machine end: what its answer shows, what it takes, and what it sends.
-use Rattle.std.proofs.Common.{◌≡◌, inl, inr, ◌⊎◌, ℕ, zero, suc, ◌+◌, ◌<◌, Bool, true, false, List, [], ◌∷◌, length, drop, get_or, set, replicate, refl, sym, ap, ◌∙◌, subst, arith, Result, Ok}
+use Rattle.std.proofs.Common.{◌≡◌, inl, inr, ◌⊎◌, ℕ, zero, suc, ◌+◌, ◌<◌, Bool, true, false, List, [], ◌∷◌, length}
+use Rattle.std.proofs.Common.{drop, get_or, set, replicate, refl, sym, ap, ◌∙◌, subst, arith, Result, Ok}
 use Rattle.std.specs.Prelude.{Option, Some, None, nat_eq, if◌then◌else◌, option_map, slice_get}
 use Rattle.std.proofs.lemmas.Bool.{cases_eq, eq-eqb, eqb-false, eqb-true, lt-ltb, ne_eqb}
 use Rattle.std.proofs.lemmas.List.{get_or-set_other, get_or-set_same, length-replicate}
@@ -56,7 +57,8 @@ unfaulty c is = ap (λ (f : Option (ℕ × EndFault Cause)). record c { fault = 
 -- an end that keeps no fault
 pub clear-core : {M : Type 0} (e : End M) → e.kept ≡ None → e.clear.fault ≡ None → core_of e ≡ e.clear
 clear-core e kept clear =
-    ap (λ (f : Option PortFault). record e.clear { fault = option_map port_cause f }) kept ∙ sym (unfaulty e.clear clear)
+    ap (λ (f : Option PortFault). record e.clear { fault = option_map port_cause f }) kept
+    ∙ sym (unfaulty e.clear clear)
 
 -- Bytes that are held stand at a port that is there.
 pub front-there : {M : Type 0} (e : End M) (p : ℕ) (m : Decoded Cause × ℕ) → first (held_at e p) ≡ Some m
@@ -119,7 +121,8 @@ sent-there n p q bytes within =
         ∙ ap (λ b. if b then bytes else []) (sym (eq-eqb (suc q) (suc p) (ap suc (eqb-true q p is))))
     by false is =
         ap (λ b. if b then bytes else []) is
-        ∙ ap (λ b. if b then bytes else []) (sym (ne_eqb (suc q) (suc p) (λ same. eqb-false q p is (omega (arith, same)))))
+        ∙ ap (λ b. if b then bytes else [])
+        (sym (ne_eqb (suc q) (suc p) (λ same. eqb-false q p is (omega (arith, same)))))
 
 -- Where a malformed packet stands that is told.
 pub placed-fault : (x held : List ℕ) (taken i : ℕ) (f : EndFault PacketFault)
@@ -171,7 +174,8 @@ module _ {M : Type 0} (k : MasterModel M) where
   -- What an answer shows of what the end did.
 
   module _ (c : MachineEnd M Cause) (whole : ℕ → Option (Decoded Cause)) where
-    pub took-by : (p : ℕ) (t : Turn) (f : Option (ℕ × EndFault Cause)) → unless_faulty (turn.Took p) f ≡ Ok t → turn.Took p ≡ t
+    pub took-by : (p : ℕ) (t : Turn) (f : Option (ℕ × EndFault Cause)) → unless_faulty (turn.Took p) f ≡ Ok t
+        → turn.Took p ≡ t
     took-by p t None is = ok-is (turn.Took p) t is
     took-by p t (Some f) is = absurd (cc (is))
 
@@ -249,9 +253,9 @@ module _ {M : Type 0} (k : MasterModel M) where
     take-quiet p None r is = absurd (none-some r is)
     take-quiet p (Some m) r is = ap (λ (r : After). r.1) (sym (some-is _ r is))
 
-    pub sends-nothing : (c : MachineEnd M Cause) (whole : ℕ → Option (Decoded Cause)) (a : Act M Cause) (answer : Answer) (r : After)
-        → answer_by k c whole a ≡ Some answer → ((p : ℕ) → answer ≡ Ok (turn.Sent p) → ⊥) → turned h x a ≡ Some r
-        → r.1 ≡ None
+    pub sends-nothing : (c : MachineEnd M Cause) (whole : ℕ → Option (Decoded Cause)) (a : Act M Cause)
+        (answer : Answer) (r : After) → answer_by k c whole a ≡ Some answer
+        → ((p : ℕ) → answer ≡ Ok (turn.Sent p) → ⊥) → turned h x a ≡ Some r → r.1 ≡ None
     sends-nothing c whole (Works next) answer r answers other is = ap (λ (r : After). r.1) (sym (some-is _ r is))
     sends-nothing c whole (Sends p m next) answer r answers other is =
         absurd (other p (sym (some-is (Ok (turn.Sent p)) answer answers)))
