@@ -1,5 +1,6 @@
 -- What stands at the front of a port's bytes at a turn, and that each port that a turn speaks of is there.
-use Rattle.std.proofs.Common.{◌≡◌, ℕ, ◌<◌, ◌≤◌, Bool, true, false, List, [], ◌∷◌, length, map, refl, sym, ap, ◌∙◌, subst, arith, Ok}
+use Rattle.std.proofs.Common.{◌≡◌, ℕ, ◌<◌, Bool, true, false, List, [], ◌∷◌, length, map, refl, sym, ap, ◌∙◌, subst}
+use Rattle.std.proofs.Common.{arith, Ok}
 use Rattle.std.specs.Prelude.{Option, Some, None, slice_get}
 use Rattle.std.proofs.lemmas.List.{length-map}
 use Rattle.std.proofs.lemmas.Option.{none-some, slice_get_within}
@@ -12,8 +13,9 @@ use Rattle.cosim_model.specs.Sessions.{is_posted}
 use Rattle.ends_model.specs.declared.ends.Phase.{Phase}
 use Rattle.ends_model.specs.declared.ends.Phase.TheVariants.{Greet, Meet, Run, AnswerFrom, SyncTo, Gather, Done}
 use Rattle.ends_model.specs.declared.ends.Turn.{Turn}
-use Rattle.ends_model.specs.declared.ends.Turn.TheVariants as turn
-use Rattle.ends_model.specs.MachineTurn.{Act, PortEnd, MachineEnd, accesses, acts_in, acts_unless, at_port, first_true, gathers, greets, held_time, is_due, is_unknown, machine_acts, runs, serves, serves_held, serves_least, syncs, works}
+use Rattle.ends_model.specs.MachineTurn.{Act, PortEnd, MachineEnd, accesses, acts_in, acts_unless, at_port}
+use Rattle.ends_model.specs.MachineTurn.{first_true, gathers, greets, held_time, is_due, is_unknown, machine_acts}
+use Rattle.ends_model.specs.MachineTurn.{runs, serves, serves_held, serves_least, syncs, works}
 use Rattle.ends_model.specs.MachineTurn.Act.{Works, Sends, Awaits, Serves, Marks, Rests, Fails, Lost}
 use Rattle.rp_framing.specs.Framing.{Frames}
 use Rattle.rp_packet.specs.declared.fault.Cause.{Cause}
@@ -115,13 +117,14 @@ acted-at e old new before after Rests t there none does = subst (λ u. IsAtFront
 acted-at e old new before after (Fails p f) t there none does = absurd does
 acted-at e old new before after Lost t there none does = absurd does
 
-pub acted-front : {M : Type 0} (k : MasterModel M) (clear : MachineEnd M Cause) (kept : Option PortFault) (fs : List Frames)
-    (old new : Core M) (before after : List ℕ) (t : Turn) → length fs ≡ length clear.ports
+pub acted-front : {M : Type 0} (k : MasterModel M) (clear : MachineEnd M Cause) (kept : Option PortFault)
+    (fs : List Frames) (old new : Core M) (before after : List ℕ) (t : Turn) → length fs ≡ length clear.ports
     → awaited (machine_acts k clear) ≡ None → Does (machine_acts k clear) old new before after t
     → IsAtFront (made clear kept fs) (Ok t)
 acted-front k clear kept fs old new before after t size none does =
     acted-at (made clear kept fs) old new before after (machine_acts k clear) t
-    (subst (λ n. GoesThere n (machine_acts k clear)) (sym (length-map fs received ∙ size)) (act-there k clear)) none does
+    (subst (λ n. GoesThere n (machine_acts k clear)) (sym (length-map fs received ∙ size)) (act-there k clear)) none
+    does
 
 -- a packet that is not taken
 pub heard-blamed : (taken : ℕ) (held : List ℕ) (f : HearFault) (x : EndFault PacketFault) → x ≡ heard_fault f
@@ -130,8 +133,8 @@ heard-blamed taken held (hear.Session f) x is = subst (λ y. IsBlamedAt taken he
 heard-blamed taken held (hear.LateWant at got) x is = subst (λ y. IsBlamedAt taken held y) (sym is) tt
 
 -- an end waits for a packet of a port that is there
-pub waits-there : {M : Type 0} (k : MasterModel M) (clear : MachineEnd M Cause) (kept : Option PortFault) (fs : List Frames)
-    (e : End M) → made clear kept fs ≡ e → clear.fault ≡ None → length fs ≡ length clear.ports
+pub waits-there : {M : Type 0} (k : MasterModel M) (clear : MachineEnd M Cause) (kept : Option PortFault)
+    (fs : List Frames) (e : End M) → made clear kept fs ≡ e → clear.fault ≡ None → length fs ≡ length clear.ports
     → ((p : ℕ) → awaited (machine_acts k clear) ≡ Some p → p < length clear.ports) → (p : ℕ) → IsWaiting k p e
     → p < length e.ports
 waits-there k clear kept fs e view none size there p waits =

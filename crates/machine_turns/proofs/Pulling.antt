@@ -1,5 +1,5 @@
 -- One read, seen at the end that it was for.
-use Rattle.std.proofs.Common.{◌≡◌, ℕ, ◌++◌, List, [], length, map, set, refl, sym, ap, ◌∙◌, subst, Result, Ok, Err}
+use Rattle.std.proofs.Common.{◌≡◌, ℕ, List, [], map, set, sym, ap, ◌∙◌, Result, Ok, Err}
 use Rattle.std.specs.Prelude.{Option, Some, None, ◌||◌, is_some, slice_get, false}
 use Rattle.std.proofs.lemmas.List.{append-nil, map-set}
 use Rattle.cos_base.specs.Links.{Wire}
@@ -19,9 +19,9 @@ use Rattle.machine_turns.specs.Ends.{End, IsWaiting, Pulls, fed_at, held_at, hel
 use Rattle.machine_turns.specs.EndLaws.{waits-none}
 use Rattle.machine_turns.proofs.Turning.{fed-end, fed-framer, held-there, made}
 
-pub waits-unready : {M : Type 0} (k : MasterModel M) (clear : MachineEnd M Cause) (kept : Option PortFault) (fs : List Frames)
-    (e : End M) (p : ℕ) (f : Frames) → made clear kept fs ≡ e → slice_get fs p ≡ Some f → f.kept ≡ None → IsWaiting k p e
-    → is_ready f ≡ false
+pub waits-unready : {M : Type 0} (k : MasterModel M) (clear : MachineEnd M Cause) (kept : Option PortFault)
+    (fs : List Frames) (e : End M) (p : ℕ) (f : Frames) → made clear kept fs ≡ e → slice_get fs p ≡ Some f
+    → f.kept ≡ None → IsWaiting k p e → is_ready f ≡ false
 waits-unready k clear kept fs e p f view at none waits =
     let held = ap (λ x. first (held_at x p)) view ∙ waits-none k p e waits in
     ap (λ o. is_some o || is_some (first f.held)) none

@@ -24,7 +24,7 @@ use Rattle.machine_core.specs.declared.fault.HearFault.{HearFault}
 use Rattle.machine_core.specs.declared.fault.HearFault.TheVariants as hear
 use Rattle.machine_turns.specs.declared.fault.PortFault.{PortFault}
 use Rattle.machine_turns.specs.Runs.{machine_alone}
-use Rattle.machine_turns.specs.StepLaws.{clear-core, some-not, there-some, unfaulty, zeros}
+use Rattle.machine_turns.specs.StepLaws.{clear-core, some-not, there-some, zeros}
 use Rattle.machine_turns.specs.Ends.{End, Goes, Holds, IsOpen, IsTurn, Received, answer_of, core_of, fed_at, fresh, heard_fault, held_at, more, moves, port_cause, put, received, sent_by, taken_of}
 
 -- an end by what it is made of

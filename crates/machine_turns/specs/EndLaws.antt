@@ -1,41 +1,42 @@
 -- A machine end that was fed pieces and took turns stands within a run over all that it was fed.
-use Rattle.std.proofs.Common.{◌≡◌, inl, inr, ◌⊎◌, ℕ, zero, suc, ◌+◌, ◌<◌, ◌≤◌, Bool, true, false, List, [], ◌∷◌, ◌++◌, length, drop, get_or, set, replicate, refl, sym, ap, ◌∙◌, subst, arith, Result, Ok, Err}
-use Rattle.std.specs.Prelude.{Option, Some, None, min, nat_eq, nat_lt, if◌then◌else◌, option_map, slice_get}
-use Rattle.std.proofs.lemmas.Bool.{cases_eq, eq-eqb, eqb-false, eqb-true, lt-ltb, ne_eqb}
+use Rattle.std.proofs.Common.{◌≡◌, inl, inr, ℕ, suc, ◌+◌, ◌<◌, List, [], ◌∷◌, ◌++◌, length, drop, get_or, set}
+use Rattle.std.proofs.Common.{replicate, refl, sym, ap, ◌∙◌, subst, arith, Result, Ok, Err}
+use Rattle.std.specs.Prelude.{Option, Some, None, option_map, slice_get}
+use Rattle.std.proofs.lemmas.Bool.{cases_eq}
 use Rattle.std.proofs.lemmas.List.{append-nil, drop-drop, get_or-set_other, get_or-set_same, length-replicate}
-use Rattle.std.proofs.lemmas.Option.{none-some, same_Some, slice_get_within}
-use Rattle.process_network.specs.Network.{Streams, only}
+use Rattle.std.proofs.lemmas.Option.{none-some}
+use Rattle.process_network.specs.Network.{Streams}
 use Rattle.process_network.specs.PacketStar.{HubOutlook, fresh_hub, hub_after_take, hub_turn_by}
 use Rattle.process_network.specs.PacketStar.HubOutlook.{HubActs, HubWaits, HubHalts}
 use Rattle.process_network.specs.Star.{to_leaf}
 use Rattle.process_network.proofs.PacketRuns.{drop_front}
-use Rattle.cosim_model.specs.declared.session.EndFault.{EndFault}
-use Rattle.cosim_model.specs.declared.session.EndFault.TheVariants as fault
 use Rattle.cosim_model.specs.Packets.{Packet, Decoded}
-use Rattle.cosim_model.specs.Packets.Decoded.{Valid, Malformed}
+use Rattle.cosim_model.specs.Packets.Decoded.{Valid}
 use Rattle.cosim_model.specs.Parts.{MasterModel}
 use Rattle.cosim_model.specs.Streams.{HasTaken}
 use Rattle.cosim_model.proofs.Streams.{one_more}
 use Rattle.ends_model.specs.declared.ends.Turn.{Turn}
 use Rattle.ends_model.specs.declared.ends.Turn.TheVariants as turn
-use Rattle.ends_model.specs.Answers.{answer_by, take_answer, unless_faulty}
-use Rattle.ends_model.specs.MachineTurn.{Act, MachineEnd, acts_unless, machine_acts, machine_outlook, machine_takes, outlook_of}
-use Rattle.ends_model.specs.MachineTurn.Act.{Works, Sends, Awaits, Serves, Marks, Rests, Fails, Lost}
+use Rattle.ends_model.specs.MachineTurn.{Act, MachineEnd, acts_unless, machine_acts, machine_outlook, machine_takes}
+use Rattle.ends_model.specs.MachineTurn.{outlook_of}
+use Rattle.ends_model.specs.MachineTurn.Act.{Awaits}
 use Rattle.rp_packet.specs.declared.fault.Cause.{Cause}
-use Rattle.rp_packet.specs.declared.fault.PacketFault.{PacketFault}
-use Rattle.rp_packet.specs.Reading.{fault_at}
 use Rattle.rp_packet.specs.Refusals.{first}
 use Rattle.rp_packet.specs.Streams.{packet_codec}
 use Rattle.rp_framing.specs.Framing.{counted}
-use Rattle.device_turns.specs.Ends.{IsPlaced}
 use Rattle.machine_core.specs.Machines.{awaited}
 use Rattle.machine_turns.specs.declared.fault.PortFault.{PortFault}
 use Rattle.machine_turns.specs.declared.fault.TurnFault.{TurnFault}
 use Rattle.machine_turns.specs.declared.fault.TurnFault.TheVariants as turn_fault
-use Rattle.machine_turns.specs.Runs.{Rests as AtRest, Taking, machine_alone, only_at}
-use Rattle.machine_turns.specs.Ends.{End, Goes, GoesOn, HasRun, Holds, IsAtFront, IsAtRest, IsBlamedAt, IsPlacedAt, IsTurn, IsWaiting, Received, Sends as Sent, SendsAll, Turns, answer_of, core_of, held_at, held_of, port_cause, sent_by, taken_at, taken_in, taken_of, turn_of}
+use Rattle.machine_turns.specs.Runs.{IsWholeRun, Taking, machine_alone, only_at}
+use Rattle.machine_turns.specs.Ends.{End, Goes, GoesOn, HasRun, IsAtFront, IsAtRest, IsBlamedAt, IsPlacedAt, IsTurn}
+use Rattle.machine_turns.specs.Ends.{IsWaiting, Sends as Sent, SendsAll, Turns, answer_of, core_of, held_at, held_of}
+use Rattle.machine_turns.specs.Ends.{port_cause, sent_by, taken_at, taken_in, taken_of, turn_of}
 use Rattle.machine_turns.specs.RunLaws.{run-on, run-size, sent-stays}
-use Rattle.machine_turns.specs.StepLaws.{Answer, IsActing, absent, acts-none, clear-core, counted-more, done-halts, front-there, held-after, ok-is, only-nothing, placed-fault, sends-nothing, sends-to, sent-there, set-adds, some-is, some-not, takes-from, there-some, took-nothing, waits-for, zeros}
+use Rattle.machine_turns.specs.StepLaws.{Answer, IsActing, absent, acts-none, clear-core, counted-more, done-halts}
+use Rattle.machine_turns.specs.StepLaws.{front-there, held-after, ok-is, only-nothing, placed-fault, sends-nothing}
+use Rattle.machine_turns.specs.StepLaws.{sends-to, sent-there, set-adds, some-is, some-not, takes-from, there-some}
+use Rattle.machine_turns.specs.StepLaws.{took-nothing, waits-for, zeros}
 
 module _ {M : Type 0} (k : MasterModel M) where
   abbrev After : Type 0
@@ -45,7 +46,8 @@ module _ {M : Type 0} (k : MasterModel M) where
   turned h x a = hub_turn_by (machine_alone k packet_codec) h x (outlook_of a)
 
   -- The same turn of the run over all that was received.
-  record Also (x : Streams) (h : Taking M) (v : HubOutlook (MachineEnd M Cause) (Decoded Cause)) (r : After) : Type 0 where
+  record Also (x : Streams) (h : Taking M) (v : HubOutlook (MachineEnd M Cause) (Decoded Cause)) (r : After)
+      : Type 0 where
     hub : Taking M
     turn : hub_turn_by (machine_alone k packet_codec) h x v ≡ Some (hub, r.1)
     core : r.0.core ≡ hub.core
@@ -64,7 +66,8 @@ module _ {M : Type 0} (k : MasterModel M) where
 
   -- what stands at the front of a port's bytes is what the turn takes
   front-taken : (e : End M) (p : ℕ) (m : Option (Decoded Cause × ℕ)) → first (held_at e p) ≡ m
-      → turned (before-turn e) (held_at e) (Awaits p) ≡ hub_after_take (machine_alone k packet_codec) (before-turn e) p m
+      → turned (before-turn e) (held_at e) (Awaits p)
+      ≡ hub_after_take (machine_alone k packet_codec) (before-turn e) p m
   front-taken e p m front =
       ap (λ i. hub_after_take (machine_alone k packet_codec) (before-turn e) p (first (drop i (held_at e p))))
       (zeros (length e.ports) p) ∙ ap (hub_after_take (machine_alone k packet_codec) (before-turn e) p) front
@@ -123,7 +126,8 @@ module _ {M : Type 0} (k : MasterModel M) where
     turned-run later new before after r is goes size more took =
         let h = run.hub in
         let also = also-by (machine_outlook k (core_of e)) r is in
-        let turn = ap (λ c. hub_turn_by (machine_alone k packet_codec) h x (machine_outlook k c)) (sym run.core) ∙ also.turn in
+        let turn = ap (λ c. hub_turn_by (machine_alone k packet_codec) h x (machine_outlook k c)) (sym run.core)
+        ∙ also.turn in
         record {
           turns = suc run.turns;
           hub = also.hub;
@@ -133,20 +137,25 @@ module _ {M : Type 0} (k : MasterModel M) where
           held = λ none p within.
               ap held_of (goes.1 none p) ∙ held-after (get_or r.0.taken p 0) (slice_get e.ports p)
               ∙ ap (drop (get_or r.0.taken p 0)) (run.held clear p within)
-              ∙ drop-drop (get_or r.0.taken p 0) (get_or h.taken p 0) (x p) ∙ ap (λ i. drop i (x p)) (sym (also.taken p));
+              ∙ drop-drop (get_or r.0.taken p 0) (get_or h.taken p 0) (x p)
+              ∙ ap (λ i. drop i (x p)) (sym (also.taken p));
           taken = λ none p within.
               let at = there-some e.ports p (subst (λ m. p < m) (sym run.size) within) in
               ap taken_in (goes.1 none p) ∙ ap (λ o. taken_in (option_map (taken_of (get_or r.0.taken p 0)) o)) at.1
               ∙ counted-more at.0.taken (get_or h.taken p 0) (get_or r.0.taken p 0)
               (sym (ap taken_in at.1) ∙ run.taken clear p within) ∙ ap counted (sym (also.taken p));
-          packets = λ none p. subst (λ i. HasTaken packet_codec (x p) i None) (sym (also.taken p)) (took.packets none p);
+          packets = λ none p.
+              subst (λ i. HasTaken packet_codec (x p) i None) (sym (also.taken p)) (took.packets none p);
           placed = took.placed;
         }
 
     -- What is known of the packets, by what a turn answered.
 
-    unmoved : (p : ℕ) (more : List ℕ) → ◌≡◌ {A = ℕ} (get_or more p 0) 0
-        → HasTaken packet_codec (x p) (get_or run.hub.taken p 0 + get_or more p 0) None
+    -- so many bytes more are packets too
+    abbrev Has : ℕ → ℕ → Type 0
+    Has p size = HasTaken packet_codec (x p) (get_or run.hub.taken p 0 + size) None
+
+    unmoved : (p : ℕ) (more : List ℕ) → ◌≡◌ {A = ℕ} (get_or more p 0) 0 → Has p (get_or more p 0)
     unmoved p more none =
         let count : get_or run.hub.taken p 0 ≡ get_or run.hub.taken p 0 + get_or more p 0 = omega (arith, none) in
         subst (λ i. HasTaken packet_codec (x p) i None) count (run.packets clear p)
@@ -169,7 +178,8 @@ module _ {M : Type 0} (k : MasterModel M) where
         → machine_acts k (core_of e) ≡ Awaits q → new.kept ≡ None → turn_of k e ≡ Some r → Took x new run.hub r.0.taken
     took-one q m size new r front acts keeps is =
         let within = front-there e q (Valid m, size) front in
-        let taking = sym (ap (turned (before-turn e) (held_at e)) acts ∙ front-taken e q (Some (Valid m, size)) front) ∙ is in
+        let taking = sym (ap (turned (before-turn e) (held_at e)) acts
+        ∙ front-taken e q (Some (Valid m, size)) front) ∙ is in
         let same = some-is _ r taking in
         let here : get_or r.0.taken q 0 ≡ size =
         ap (λ (s : After). get_or s.0.taken q 0) (sym same)
@@ -181,13 +191,12 @@ module _ {M : Type 0} (k : MasterModel M) where
         (ap first (sym (stands q within)) ∙ front) in
         record {
           packets = λ kept p.
-              elim (cases_eq p q) as (λ _. HasTaken packet_codec (x p) (get_or run.hub.taken p 0 + get_or r.0.taken p 0) None) [
-                | inl equal ↦ subst (λ i. HasTaken packet_codec (x i) (get_or run.hub.taken i 0 + get_or r.0.taken i 0) None)
-                (sym equal) (subst (λ i. HasTaken packet_codec (x q) (get_or run.hub.taken q 0 + i) None) (sym here)
-                (had.0 ++ m ∷ [], more))
+              elim (cases_eq p q) as (λ _. Has p (get_or r.0.taken p 0)) [
+                | inl equal ↦ subst (λ i. Has i (get_or r.0.taken i 0)) (sym equal)
+                    (subst (λ n. Has q n) (sym here) (had.0 ++ m ∷ [], more))
                 | inr apart ↦ unmoved p r.0.taken (ap (λ (s : After). get_or s.0.taken p 0) (sym same)
-                ∙ get_or-set_other (replicate (length e.ports) 0) q p (get_or (replicate (length e.ports) 0) q 0 + size) 0 apart
-                ∙ zeros (length e.ports) p)
+                    ∙ get_or-set_other (replicate (length e.ports) 0) q p
+                    (get_or (replicate (length e.ports) 0) q 0 + size) 0 apart ∙ zeros (length e.ports) p)
               ];
           placed = subst (IsPlacedAt x) (sym keeps) tt;
         }
@@ -248,7 +257,14 @@ module _ {M : Type 0} (k : MasterModel M) where
   waits-rests p e waits there start n x sent run =
       let front = ap first (sym (stands start n x sent e (waits-clear p e waits) run p there)) ∙ waits-none p e waits in
       ap (λ c. hub_turn_by (machine_alone k packet_codec) run.hub x (machine_outlook k c)) (sym run.core)
-      ∙ ap (turned run.hub x) (waits-at e p waits).0 ∙ ap (hub_after_take (machine_alone k packet_codec) run.hub p) front
+      ∙ ap (turned run.hub x) (waits-at e p waits).0
+      ∙ ap (hub_after_take (machine_alone k packet_codec) run.hub p) front
+
+  -- the run of an end that can take no more turns is whole
+  pub rests-whole : (start : MachineEnd M Cause) (n : ℕ) (x sent : Streams) (e : End M)
+      (run : HasRun k start n x sent e) → IsAtRest k e → IsWholeRun k start n x run.hub sent
+  rests-whole start n x sent e run rests =
+      record { turns = run.turns; run = run.run; rests = rests start n x sent run }
 
   -- What every call of turn shows.
 
@@ -266,8 +282,8 @@ module _ {M : Type 0} (k : MasterModel M) where
         → HasRun k start n x sent old → HasRun k start n x later new
     moved-run answer kept call quiet more took run = by (turn_of k old) refl old.kept refl call.goes
       where
-        by : (o : Option After) → turn_of k old ≡ o → (had : Option PortFault) → old.kept ≡ had → Goes o old new before after
-            → HasRun k start n x later new
+        by : (o : Option After) → turn_of k old ≡ o → (had : Option PortFault) → old.kept ≡ had
+            → Goes o old new before after → HasRun k start n x later new
         by None is was goes_was goes = still-run goes.0 (quiet goes.1) run
         by (Some r) is (Some f) was goes = absurd (absent r (sym is ∙ halts-turn old (kept-halts old f was)))
         by (Some r) is None was goes =
@@ -284,8 +300,8 @@ module _ {M : Type 0} (k : MasterModel M) where
         moved-run answer kept call (λ is. same)
         (λ r is clear out size q.
         same q ∙ sym (append-nil (sent q)) ∙ ap (λ s. sent q ++ to_leaf n s (suc q))
-        (sym (sends-nothing k (before-turn old) (held_at old) (core_of old) (whole-of old) (machine_acts k (core_of old)) answer r
-        call.answers other is))) took run
+        (sym (sends-nothing k (before-turn old) (held_at old) (core_of old) (whole-of old)
+        (machine_acts k (core_of old)) answer r call.answers other is))) took run
 
     acting-run : (t : Turn) → IsTurn k old new before after (Ok t) None → IsActing t → ((p : ℕ) → t ≡ turn.Sent p → ⊥)
         → ((q : ℕ) → later q ≡ sent q) → HasRun k start n x sent old → HasRun k start n x later new
@@ -293,15 +309,17 @@ module _ {M : Type 0} (k : MasterModel M) where
         quiet-run (Ok t) None call (λ p is. other p (ok-is t (turn.Sent p) is)) same
         (λ r is clear run. acted start n x sent old clear run t new r acting call.answers call.keeps is) run
 
-    sending-run : (p : ℕ) → IsTurn k old new before after (Ok (turn.Sent p)) None → (old.kept ≡ None → p < length old.ports)
-        → Sent (Ok (turn.Sent p)) before after sent later → HasRun k start n x sent old → HasRun k start n x later new
+    sending-run : (p : ℕ) → IsTurn k old new before after (Ok (turn.Sent p)) None
+        → (old.kept ≡ None → p < length old.ports) → Sent (Ok (turn.Sent p)) before after sent later
+        → HasRun k start n x sent old → HasRun k start n x later new
     sending-run p call there grown run =
         moved-run (Ok (turn.Sent p)) None call
-        (λ same q. grown q ∙ ap (λ s. sent q ++ only_at p s q) (ap (drop (length before)) (same ∙ sym (append-nil before))
+        (λ same q.
+        grown q ∙ ap (λ s. sent q ++ only_at p s q) (ap (drop (length before)) (same ∙ sym (append-nil before))
         ∙ drop_front before []) ∙ ap (λ s. sent q ++ s) (only-nothing p q) ∙ append-nil (sent q))
         (λ r is clear out size q.
-        let to = sends-to k (before-turn old) (held_at old) (core_of old) (whole-of old) (machine_acts k (core_of old)) p r
-        call.answers is in
+        let to = sends-to k (before-turn old) (held_at old) (core_of old) (whole-of old) (machine_acts k (core_of old))
+        p r call.answers is in
         let bytes = ap (drop (length before)) (out ∙ ap (λ s. before ++ sent_by s) to.1) ∙ drop_front before to.0 in
         grown q ∙ ap (λ s. sent q ++ only_at p s q) bytes
         ∙ ap (λ s. sent q ++ s) (sent-there n p q to.0 (subst (λ m. p < m) size (there clear)))
@@ -336,7 +354,8 @@ module _ {M : Type 0} (k : MasterModel M) where
   call-runs old new before after result call front start n x sent later sends run =
       call-run start n x sent later old new before after result call front sends run
 
-  same-after : (old new : End M) (before after : List ℕ) (o : Option After) → o ≡ None → Goes o old new before after → new ≡ old
+  same-after : (old new : End M) (before after : List ℕ) (o : Option After) → o ≡ None → Goes o old new before after
+      → new ≡ old
   same-after old new before after None is goes = goes.0
   same-after old new before after (Some r) is goes = absurd (absent r is)
 
@@ -348,13 +367,15 @@ module _ {M : Type 0} (k : MasterModel M) where
   rests-same old new same rests = subst (λ e. IsAtRest k e) (sym same) rests
 
   pub call-all : (old new : End M) (before after : List ℕ) (result : Result Turn TurnFault)
-      → Turns k old new before after result → ((p : ℕ) → IsWaiting k p old → p < length old.ports) → SendsAll k result new
+      → Turns k old new before after result → ((p : ℕ) → IsWaiting k p old → p < length old.ports)
+      → SendsAll k result new
   call-all old new before after (Ok (turn.NotYet p)) call there =
       rests-same old new (same-after old new before after (turn_of k old) (waits-turn p old call.answers) call.goes)
       (waits-rests p old call.answers (there p call.answers))
   call-all old new before after (Ok turn.Done) call there =
       let halts = done-halts k (core_of old) (whole-of old) (machine_acts k (core_of old)) call.answers in
-      rests-same old new (same-after old new before after (turn_of k old) (halts-turn old halts) call.goes) (halts-rests old halts)
+      rests-same old new (same-after old new before after (turn_of k old) (halts-turn old halts) call.goes)
+      (halts-rests old halts)
   call-all old new before after (Ok turn.Unit) call there = tt
   call-all old new before after (Ok (turn.Sent p)) call there = tt
   call-all old new before after (Ok (turn.Took p)) call there = tt

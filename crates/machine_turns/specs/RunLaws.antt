@@ -1,10 +1,11 @@
 -- Runs of a machine end: more bytes behind don't change them, they begin with a fresh end, and they go on with what the
 -- end is fed.
-use Rattle.std.proofs.Common.{◌≡◌, ℕ, zero, suc, ◌+◌, ◌<◌, ◌≤◌, Bool, true, false, List, [], ◌∷◌, ◌++◌, length, drop, get_or, set, replicate, refl, sym, ap, ◌∙◌, subst, arith}
+use Rattle.std.proofs.Common.{◌≡◌, ℕ, zero, suc, ◌+◌, ◌<◌, ◌≤◌, Bool, true, false, List, [], ◌∷◌, ◌++◌, length, drop}
+use Rattle.std.proofs.Common.{get_or, set, replicate, refl, sym, ap, ◌∙◌, subst}
 use Rattle.std.specs.Prelude.{Option, Some, None, nat_eq, if◌then◌else◌, option_map, slice_get}
 use Rattle.std.proofs.lemmas.Bool.{eqb-false, eqb-true}
 use Rattle.std.proofs.lemmas.List.{append-nil, drop-append-le, length-replicate, length-set}
-use Rattle.std.proofs.lemmas.Option.{none-some, same_Some, slice_get_within}
+use Rattle.std.proofs.lemmas.Option.{none-some, slice_get_within}
 use Rattle.process_network.specs.Network.{Below, IsPrefix, Streams}
 use Rattle.process_network.specs.PacketStar.{HubOutlook, fresh_hub, hub_after_take, hub_turn_by}
 use Rattle.process_network.specs.PacketStar.HubOutlook.{HubActs, HubWaits, HubHalts}
@@ -27,7 +28,8 @@ use Rattle.rp_framing.specs.Framing.{counted}
 use Rattle.device_turns.specs.Ends.{IsPlaced}
 use Rattle.machine_turns.specs.declared.fault.PortFault.{PortFault}
 use Rattle.machine_turns.specs.Runs.{Grown, IsRun, Taking, machine_alone, only_at}
-use Rattle.machine_turns.specs.Ends.{End, HasRun, IsPlacedAt, Received, RunsOn, core_of, fed_at, fresh, held_at, held_of, more, put, taken_at, taken_in}
+use Rattle.machine_turns.specs.Ends.{End, HasRun, IsPlacedAt, Received, RunsOn, core_of, fed_at, fresh, held_at}
+use Rattle.machine_turns.specs.Ends.{held_of, more, put, taken_at, taken_in}
 use Rattle.machine_turns.specs.StepLaws.{some-is, some-not, there-some, unfaulty, zeros}
 
 module _ {M : Type 0} (k : MasterModel M) where
@@ -258,7 +260,8 @@ module _ {M : Type 0} (k : MasterModel M) (start : MachineEnd M Cause) (n : ℕ)
 module _ {M : Type 0} (k : MasterModel M) (p : ℕ) (bytes : List ℕ) (old new : End M) where
   feeds-by : (kept : Option PortFault) → old.kept ≡ kept → new ≡ fed_at kept p bytes old → RunsOn k p bytes old new
   feeds-by None clear fed start n x y sent grown run =
-      subst (λ (e : End M). HasRun k start n y sent e) (sym fed) (fed-run k start n x y sent old p bytes clear grown run)
+      subst (λ (e : End M). HasRun k start n y sent e) (sym fed)
+      (fed-run k start n x y sent old p bytes clear grown run)
   feeds-by (Some f) kept fed start n x y sent grown run =
       subst (λ (e : End M). HasRun k start n y sent e) (sym fed)
       (kept-run k start n x y sent old f kept (grown-below p bytes x y grown) run)

@@ -1,25 +1,24 @@
 -- One turn of a machine end: what its answer shows, what it takes, and what it sends.
-use Rattle.std.proofs.Common.{◌≡◌, inl, inr, ◌⊎◌, ℕ, zero, suc, ◌+◌, ◌<◌, ◌≤◌, Bool, true, false, List, [], ◌∷◌, ◌++◌, length, drop, get_or, set, replicate, refl, sym, ap, ◌∙◌, subst, arith, Result, Ok, Err}
-use Rattle.std.specs.Prelude.{Option, Some, None, min, nat_eq, nat_lt, if◌then◌else◌, option_map, slice_get}
+use Rattle.std.proofs.Common.{◌≡◌, inl, inr, ◌⊎◌, ℕ, zero, suc, ◌+◌, ◌<◌, Bool, true, false, List, [], ◌∷◌, length}
+use Rattle.std.proofs.Common.{drop, get_or, set, replicate, refl, sym, ap, ◌∙◌, subst, arith, Result, Ok}
+use Rattle.std.specs.Prelude.{Option, Some, None, nat_eq, if◌then◌else◌, option_map, slice_get}
 use Rattle.std.proofs.lemmas.Bool.{cases_eq, eq-eqb, eqb-false, eqb-true, lt-ltb, ne_eqb}
-use Rattle.std.proofs.lemmas.List.{append-nil, drop-drop, get_or-set_other, get_or-set_same, length-replicate}
-use Rattle.std.proofs.lemmas.Option.{none-some, same_Some, slice_get_within}
+use Rattle.std.proofs.lemmas.List.{get_or-set_other, get_or-set_same, length-replicate}
+use Rattle.std.proofs.lemmas.Option.{none-some, slice_get_within}
 use Rattle.process_network.specs.Network.{Streams, only}
-use Rattle.process_network.specs.PacketStar.{HubOutlook, fresh_hub, hub_after_take, hub_turn_by}
-use Rattle.process_network.specs.PacketStar.HubOutlook.{HubActs, HubWaits, HubHalts}
+use Rattle.process_network.specs.PacketStar.{hub_after_take, hub_turn_by}
+use Rattle.process_network.specs.PacketStar.HubOutlook.{HubHalts}
 use Rattle.process_network.specs.Star.{to_leaf}
-use Rattle.process_network.proofs.PacketRuns.{drop_front}
 use Rattle.cosim_model.specs.declared.session.EndFault.{EndFault}
 use Rattle.cosim_model.specs.declared.session.EndFault.TheVariants as fault
-use Rattle.cosim_model.specs.Packets.{Packet, Decoded}
-use Rattle.cosim_model.specs.Packets.Decoded.{Valid, Malformed}
+use Rattle.cosim_model.specs.Packets.{Decoded}
+use Rattle.cosim_model.specs.Packets.Decoded.{Malformed}
 use Rattle.cosim_model.specs.Parts.{MasterModel}
 use Rattle.cosim_model.specs.Streams.{HasTaken}
-use Rattle.cosim_model.proofs.Streams.{one_more}
 use Rattle.ends_model.specs.declared.ends.Turn.{Turn}
 use Rattle.ends_model.specs.declared.ends.Turn.TheVariants as turn
 use Rattle.ends_model.specs.Answers.{answer_by, take_answer, unless_faulty}
-use Rattle.ends_model.specs.MachineTurn.{Act, MachineEnd, acts_unless, machine_acts, machine_outlook, machine_takes, outlook_of}
+use Rattle.ends_model.specs.MachineTurn.{Act, MachineEnd, machine_takes, outlook_of}
 use Rattle.ends_model.specs.MachineTurn.Act.{Works, Sends, Awaits, Serves, Marks, Rests, Fails, Lost}
 use Rattle.rp_packet.specs.declared.fault.Cause.{Cause}
 use Rattle.rp_packet.specs.declared.fault.PacketFault.{PacketFault}
@@ -30,10 +29,8 @@ use Rattle.rp_framing.specs.Framing.{counted}
 use Rattle.device_turns.specs.Ends.{IsPlaced}
 use Rattle.machine_core.specs.Machines.{awaited}
 use Rattle.machine_turns.specs.declared.fault.PortFault.{PortFault}
-use Rattle.machine_turns.specs.declared.fault.TurnFault.{TurnFault}
-use Rattle.machine_turns.specs.declared.fault.TurnFault.TheVariants as turn_fault
-use Rattle.machine_turns.specs.Runs.{Rests as AtRest, Taking, machine_alone, only_at}
-use Rattle.machine_turns.specs.Ends.{End, Goes, GoesOn, HasRun, Holds, IsAtFront, IsAtRest, IsBlamedAt, IsPlacedAt, IsTurn, IsWaiting, Received, Sends as Sent, SendsAll, Turns, answer_of, core_of, held_at, held_of, port_cause, sent_by, taken_at, taken_in, taken_of, turn_of}
+use Rattle.machine_turns.specs.Runs.{Taking, machine_alone, only_at}
+use Rattle.machine_turns.specs.Ends.{End, IsBlamedAt, Received, core_of, held_at, held_of, port_cause, taken_of}
 
 pub some-is : {A : Type 0} (a b : A) → Some a ≡ Some b → a ≡ b
 some-is a b e = cc (e)
@@ -60,7 +57,8 @@ unfaulty c is = ap (λ (f : Option (ℕ × EndFault Cause)). record c { fault = 
 -- an end that keeps no fault
 pub clear-core : {M : Type 0} (e : End M) → e.kept ≡ None → e.clear.fault ≡ None → core_of e ≡ e.clear
 clear-core e kept clear =
-    ap (λ (f : Option PortFault). record e.clear { fault = option_map port_cause f }) kept ∙ sym (unfaulty e.clear clear)
+    ap (λ (f : Option PortFault). record e.clear { fault = option_map port_cause f }) kept
+    ∙ sym (unfaulty e.clear clear)
 
 -- Bytes that are held stand at a port that is there.
 pub front-there : {M : Type 0} (e : End M) (p : ℕ) (m : Decoded Cause × ℕ) → first (held_at e p) ≡ Some m
@@ -123,7 +121,8 @@ sent-there n p q bytes within =
         ∙ ap (λ b. if b then bytes else []) (sym (eq-eqb (suc q) (suc p) (ap suc (eqb-true q p is))))
     by false is =
         ap (λ b. if b then bytes else []) is
-        ∙ ap (λ b. if b then bytes else []) (sym (ne_eqb (suc q) (suc p) (λ same. eqb-false q p is (omega (arith, same)))))
+        ∙ ap (λ b. if b then bytes else [])
+        (sym (ne_eqb (suc q) (suc p) (λ same. eqb-false q p is (omega (arith, same)))))
 
 -- Where a malformed packet stands that is told.
 pub placed-fault : (x held : List ℕ) (taken i : ℕ) (f : EndFault PacketFault)
@@ -175,7 +174,8 @@ module _ {M : Type 0} (k : MasterModel M) where
   -- What an answer shows of what the end did.
 
   module _ (c : MachineEnd M Cause) (whole : ℕ → Option (Decoded Cause)) where
-    pub took-by : (p : ℕ) (t : Turn) (f : Option (ℕ × EndFault Cause)) → unless_faulty (turn.Took p) f ≡ Ok t → turn.Took p ≡ t
+    pub took-by : (p : ℕ) (t : Turn) (f : Option (ℕ × EndFault Cause)) → unless_faulty (turn.Took p) f ≡ Ok t
+        → turn.Took p ≡ t
     took-by p t None is = ok-is (turn.Took p) t is
     took-by p t (Some f) is = absurd (cc (is))
 
@@ -253,9 +253,9 @@ module _ {M : Type 0} (k : MasterModel M) where
     take-quiet p None r is = absurd (none-some r is)
     take-quiet p (Some m) r is = ap (λ (r : After). r.1) (sym (some-is _ r is))
 
-    pub sends-nothing : (c : MachineEnd M Cause) (whole : ℕ → Option (Decoded Cause)) (a : Act M Cause) (answer : Answer) (r : After)
-        → answer_by k c whole a ≡ Some answer → ((p : ℕ) → answer ≡ Ok (turn.Sent p) → ⊥) → turned h x a ≡ Some r
-        → r.1 ≡ None
+    pub sends-nothing : (c : MachineEnd M Cause) (whole : ℕ → Option (Decoded Cause)) (a : Act M Cause)
+        (answer : Answer) (r : After) → answer_by k c whole a ≡ Some answer
+        → ((p : ℕ) → answer ≡ Ok (turn.Sent p) → ⊥) → turned h x a ≡ Some r → r.1 ≡ None
     sends-nothing c whole (Works next) answer r answers other is = ap (λ (r : After). r.1) (sym (some-is _ r is))
     sends-nothing c whole (Sends p m next) answer r answers other is =
         absurd (other p (sym (some-is (Ok (turn.Sent p)) answer answers)))

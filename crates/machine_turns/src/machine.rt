@@ -47,7 +47,8 @@ impl<M: Master> MachineEnd<M> {
     ghost use Rattle.machine_core.specs.Machines.{awaited};
     ghost use Rattle.machine_turns.specs.declared.fault.PortFault.{PortFault};
     ghost use Rattle.machine_turns.specs.declared.fault.TurnFault.TheVariants as turn_fault;
-    ghost use Rattle.machine_turns.specs.Ends.{GoesOn, IsAtFront, IsWaiting, Pulls, RunsOn, SendsAll, Turns, answer_of, fed_at, fresh, held_at, kept_after, moves, taken_at};
+    ghost use Rattle.machine_turns.specs.Ends.{GoesOn, IsAtFront, IsWaiting, Pulls, RunsOn, SendsAll, Turns};
+    ghost use Rattle.machine_turns.specs.Ends.{answer_of, fed_at, fresh, held_at, kept_after, moves, taken_at};
     ghost use Rattle.rp_framing.specs.Receiving.{ReceiveCounts, ReceiveSound};
 
     /// An end that has taken no turn and received nothing, with so many ports. It offers all capabilities, and needs none.
@@ -118,8 +119,8 @@ impl<M: Master> MachineEnd<M> {
         self.framers[at].feed(bytes)
     }
 
-    /// Reads once from the link of a port, for an end that waits for bytes of that port, and takes in what came. It may wait for the
-    /// other side.
+    /// Reads once from the link of a port, for an end that waits for bytes of that port, and takes in what came. It may
+    /// wait for the other side.
     pub fn pull<L: Link>(&mut self, port: u32, link: &mut L) -> Result<Pulled, ReceiveFault>
         requires there { port < length self.old.ports }
         requires waits { IsWaiting M.model port self.old }

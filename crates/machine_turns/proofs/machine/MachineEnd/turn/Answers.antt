@@ -1,4 +1,3 @@
-use Rattle.std.proofs.Common.{sym, ap, ◌∙◌}
 use Rattle.machine_turns.specs.EndLaws.{call-all, call-runs}
 use Rattle.machine_turns.proofs.Fronts.{waits-there}
 use Rattle.machine_turns.proofs.machine.MachineEnd.turn.Goals as goal
