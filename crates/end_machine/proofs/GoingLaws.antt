@@ -1,7 +1,7 @@
 -- How far the links and the end have come, from call to call of drive.
 use Rattle.std.proofs.Common.{◌≡◌, ℕ, ◌<◌, ◌≤◌, List, [], ◌++◌, length, drop, get_or, map, set, refl, sym, ap, ◌∙◌, subst, arith, Result, Ok, Err}
 use Rattle.std.specs.Prelude.{Option, Some, None, IfSome, option_map, slice_get}
-use Rattle.std.proofs.lemmas.List.{append-nil, length-set}
+use Rattle.std.proofs.lemmas.List.{append-nil, length-map, length-set}
 use Rattle.std.proofs.lemmas.Option.{none-some, same_Some}
 use Rattle.byte_streams.specs.Prefixes.{IsPrefix}
 use Rattle.byte_streams.proofs.Prefixes.{IsPrefix-front, IsPrefix-same, IsPrefix-trans, Grows-IsPrefix}
@@ -20,18 +20,24 @@ use Rattle.ends_model.specs.MachineTurn.{MachineEnd, machine_outlook}
 use Rattle.ends_model.specs.World.{machine_start}
 use Rattle.rp_framing.specs.Framing.{counted}
 use Rattle.rp_framing.specs.Receiving.{Came, CameAll, CamePartly}
+use Rattle.rp_framing.specs.declared.receiver.Pulled.{Pulled}
+use Rattle.rp_framing.specs.declared.receiver.Pulled.TheVariants as pulled
+use Rattle.rp_framing.specs.declared.receiver.ReceiveFault.{ReceiveFault}
+use Rattle.rp_framing.specs.declared.receiver.ReceiveFault.TheVariants as receive
 use Rattle.rp_packet.specs.declared.fault.Cause.{Cause}
 use Rattle.rp_packet.specs.declared.fault.PacketFault.{PacketFault}
 use Rattle.machine_turns.specs.declared.fault.PortFault.{PortFault}
 use Rattle.machine_turns.specs.declared.fault.TurnFault.{TurnFault}
 use Rattle.machine_turns.specs.declared.fault.TurnFault.TheVariants as turn_fault
 use Rattle.machine_turns.specs.Runs.{Grown, IsRun, Rests, Taking, only_at}
-use Rattle.machine_turns.specs.Ends.{End, GoesOn, HasRun, IsAtFront, IsAtRest, IsBlamedAt, IsPlacedAt, RunsOn, Sends, SendsAll, Turns, core_of, held_at, port_cause, taken_at}
+use Rattle.machine_turns.specs.RunLaws.{fed-runs}
+use Rattle.machine_turns.specs.Ends.{End, GoesOn, HasRun, IsAtFront, IsAtRest, IsBlamedAt, IsPlacedAt, Pulls, RunsOn, Sends, SendsAll, Turns, core_of, held_at, port_cause, taken_at}
 use Rattle.end_machine.specs.Wires.{AllTell, Said, received_of, received_on, said_of, said_on, sent_of, sent_on}
 use Rattle.end_machine.specs.Talk.{EndsSo, FailsSo, HasParts, IfLink}
 use Rattle.end_machine.specs.Driving.{IsAllRead, IsDriven, IsInTime, IsPartly, Leaves, Tells}
-use Rattle.end_machine.specs.Going.{AreSent, FinishesBy, Going, IsAtEnd, IsGoing, OnlyLink, SendsOn, port_of, with_sent}
+use Rattle.end_machine.specs.Going.{AreSent, FinishesBy, Going, IsAtEnd, IsGoing, OnlyLink, ReadsOn, SendsOn, port_of, with_sent}
 use Rattle.end_machine.proofs.TalkLaws.{sends-less}
+use Rattle.end_machine.proofs.LinkLaws.{told-set, told-there}
 use Rattle.end_machine.proofs.WireLaws.{all-set, read-grows, read-said, read-sent, sent-grows, sent-received, sent-said, set-self, tell-at, tell-set, tell-size, there-some}
 
 parts-of : {M : Type 0} (e : End M) (h : Taking M) → core_of e ≡ h.core → HasParts e.clear h
@@ -52,7 +58,7 @@ prefix-is x y is = subst (IsPrefix x) is (IsPrefix-same x)
 
 module _ {M : Type 0} (k : MasterModel M) (start : MachineEnd M Cause) (said : Said) where
   -- a run with the same bytes
-  run-as : (n n' : ℕ) (x x' y y' : Streams) (e : End M) → n ≡ n' → ((p : ℕ) → x p ≡ x' p) → ((p : ℕ) → y p ≡ y' p)
+  pub run-as : (n n' : ℕ) (x x' y y' : Streams) (e : End M) → n ≡ n' → ((p : ℕ) → x p ≡ x' p) → ((p : ℕ) → y p ≡ y' p)
       → HasRun k start n x y e → HasRun k start n' x' y' e
   run-as n n' x x' y y' e size received sent run =
       subst (λ n. HasRun k start n x' y' e) size
@@ -246,10 +252,11 @@ module _ {M : Type 0} (k : MasterModel M) (start : MachineEnd M Cause) (said : S
   sent-is turn.Done p is = absurd (none-some p is)
 
   pub turn-sent : (e new : End M) (before out bytes : List ℕ) (now after : List (Option Wire)) (t : Turn) (p : ℕ) → port_of t ≡ Some p
-      → p < length now → GoesOn k e new before out (Ok t) → bytes ≡ drop (length before) out
+      → length now ≡ length e.ports → IsAtFront e (Ok t) → GoesOn k e new before out (Ok t) → bytes ≡ drop (length before) out
       → SendsOn now after p bytes (Ok tt) → Going k start said e now → Going k start said new after
-  turn-sent e new before out bytes now after t p port within goes is sends going =
-      going-sent e new p before out bytes now after within
+  turn-sent e new before out bytes now after t p port size front goes is sends going =
+      let there : p < length e.ports = subst (λ t. IsAtFront e (Ok t)) (sent-is t p port) front in
+      going-sent e new p before out bytes now after (omega (arith, there, size))
       (subst (λ t. GoesOn k e new before out (Ok t)) (sent-is t p port) goes) is sends going
 
   pub turn-part : (e new : End M) (before out bytes : List ℕ) (now after : List (Option Wire)) (t : Turn) (p : ℕ) (f : TurnFault)
@@ -397,3 +404,41 @@ module _ {M : Type 0} (k : MasterModel M) (plan : Plan) (m : M) (n : ℕ) (said 
               (read-in-time ns p w piece e (count ∙ tell-size now ns tell) here (subst (λ o. IfSome o IsWire) is wire) g);
         },
       )
+
+  -- What one read leaves.
+
+  pub read-goes : (e new : End M) (p : ℕ) (was after : Option Wire) (now : List (Option Wire)) (r : Pulled) → n ≡ length now
+      → slice_get now p ≡ Some was → IfSome after IsWire → e.kept ≡ None → Pulls was after p e new (Ok r)
+      → Going k start said e now → ReadsOn k start said p new (set now p after) (Ok r)
+  read-goes e new p was after now pulled.More count there wire none pulls going =
+      going-read e new p pulls.0 was after now count there pulls.3 wire (fed-runs k p pulls.0 e new none pulls.4) going
+  read-goes e new p was after now pulled.End count there wire none pulls going =
+      subst (λ (e : End M). Tells (set now p after) (IsAtEnd k start said p e)) (sym pulls.1)
+      (going-ended k start said e p was after now there pulls.0 going)
+
+  pub read-fails : (e new : End M) (p : ℕ) (was after : Option Wire) (now : List (Option Wire)) (x : ReceiveFault)
+      → slice_get now p ≡ Some was → Pulls was after p e new (Err x) → Going k start said e now → IsPartly k start (set now p after)
+  read-fails e new p was after now (receive.Link count) there pulls going =
+      going-partly k start said e p was after now there pulls.0 going
+  read-fails e new p was after now receive.NoMemory there pulls going =
+      going-partly k start said e p was after now there pulls.0 going
+  read-fails e new p was after now (receive.Malformed x) there pulls going = absurd pulls
+  read-fails e new p was after now (receive.Truncated x) there pulls going = absurd pulls
+
+-- The same of a list of links.
+
+module _ {M X : Type 0} (k : MasterModel M) (plan : Plan) (m : M) (said : Said) (told : X → Option Wire) (ls : List X) (p : ℕ) (d l : X)
+    (within : p < length ls) (e new : End M) (going : Going k (machine_start Cause m (length ls) plan) said e (map told ls)) where
+  pub link-reads : (r : Pulled) → IfSome (told l) IsWire → e.kept ≡ None → Pulls (told (get_or ls p d)) (told l) p e new (Ok r)
+      → ReadsOn k (machine_start Cause m (length ls) plan) said p new (map told (set ls p l)) (Ok r)
+  link-reads r wire none pulls =
+      subst (λ now. ReadsOn k (machine_start Cause m (length ls) plan) said p new now (Ok r)) (sym (told-set told ls p d l within))
+      (read-goes k plan m (length ls) said e new p (told (get_or ls p d)) (told l) (map told ls) r (sym (length-map ls told))
+      (told-there told ls p d l within) wire none pulls going)
+
+  pub link-fails : (x : ReceiveFault) → Pulls (told (get_or ls p d)) (told l) p e new (Err x)
+      → IsPartly k (machine_start Cause m (length ls) plan) (map told (set ls p l))
+  link-fails x pulls =
+      subst (IsPartly k (machine_start Cause m (length ls) plan)) (sym (told-set told ls p d l within))
+      (read-fails k plan m (length ls) said e new p (told (get_or ls p d)) (told l) (map told ls) x (told-there told ls p d l within)
+      pulls going)

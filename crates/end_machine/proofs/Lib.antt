@@ -5,4 +5,5 @@ mod LinkLaws
 mod GoingLaws
 mod StepLaws
 mod DriveLaws
+mod RunLaws
 mod HonestLaws

@@ -8,7 +8,11 @@ use Rattle.byte_streams.proofs.Prefixes.{IsPrefix-behind}
 use Rattle.process_network.proofs.PacketRuns.{mapped_get, mapped_kept}
 use Rattle.cos_base.specs.Counts.{Rises}
 use Rattle.cos_base.specs.Links.{Wire}
+use Rattle.rp_framing.specs.Receiving.{ReceiveCounts}
 use Rattle.rp_framing.specs.Sending.{Sends}
+use Rattle.rp_framing.specs.declared.receiver.Pulled.{Pulled}
+use Rattle.rp_framing.specs.declared.receiver.ReceiveFault.{ReceiveFault}
+use Rattle.rp_framing.specs.declared.receiver.ReceiveFault.TheVariants as receive
 use Rattle.rp_framing.specs.declared.sender.SendFault.{SendFault}
 use Rattle.machine_turns.specs.Runs.{only_at}
 use Rattle.end_machine.specs.Wires.{AllTell, received_of, received_on, sent_of, sent_on}
@@ -54,6 +58,15 @@ module _ {X : Type 0} (count : X → ℕ) (ls : List X) (p : ℕ) (d l : X) (wit
       by q false is =
           ap (λ xs. get_or xs q 0) (map-set count ls p l)
           ∙ get_or-set_other (map count ls) p q (count l) 0 (λ same. unequal q p is (sym same))
+
+-- what a read that failed did to the count
+
+pub read-rise : (before now n : ℕ) (x : ReceiveFault) → x ≡ receive.Link n → ReceiveCounts {A = Pulled} before now (Err x)
+    → Rises before now × (n ≡ now)
+read-rise before now n x is counts = subst (λ (x : ReceiveFault). ReceiveCounts {A = Pulled} before now (Err x)) is counts
+
+pub read-same : (before now : ℕ) (x : ReceiveFault) → x ≡ receive.NoMemory → ReceiveCounts {A = Pulled} before now (Err x) → now ≡ before
+read-same before now x is counts = subst (λ (x : ReceiveFault). ReceiveCounts {A = Pulled} before now (Err x)) is counts
 
 -- What links tell.
 

@@ -1,6 +1,6 @@
 -- One turn of drive: what its answer says of the end, and that there is less left to do.
 use Rattle.std.proofs.Common.{◌≡◌, ℕ, zero, suc, ◌+◌, ◌-◌, ◌*◌, ◌<◌, ◌≤◌, true, false, Bool, List, [], ◌∷◌, ◌++◌, length, drop, get_or, map, replicate, set, refl, sym, ap, ◌∙◌, subst, arith, length-append, Result, Ok, Err}
-use Rattle.std.specs.Prelude.{Option, Some, None, option_map, slice_get}
+use Rattle.std.specs.Prelude.{Option, Some, None, if◌then◌else◌, option_map, slice_get}
 use Rattle.std.proofs.lemmas.Option.{none-some, same_Some}
 use Rattle.process_network.specs.PacketStar.{HubEnd, HubOutlook, hub_after_take, hub_turn_by, fresh_hub}
 use Rattle.process_network.specs.PacketStar.HubOutlook.{HubActs, HubWaits, HubHalts}
@@ -23,11 +23,15 @@ use Rattle.rp_packet.specs.declared.fault.Cause.{Cause}
 use Rattle.rp_packet.specs.Refusals.{first}
 use Rattle.rp_packet.specs.Streams.{packet_codec}
 use Rattle.machine_turns.specs.declared.fault.PortFault.{PortFault}
-use Rattle.machine_turns.specs.Runs.{machine_alone}
-use Rattle.machine_turns.specs.Ends.{End, Goes, IsTurn, IsWaiting, answer_of, core_of, fed_at, held_at, held_of, turn_of}
-use Rattle.end_machine.specs.Going.{waiting_at, waiting_bytes}
+use Rattle.machine_core.specs.Machines.{awaited}
+use Rattle.machine_turns.specs.RunLaws.{fed-ports}
+use Rattle.machine_turns.specs.Runs.{machine_alone, only_at}
+use Rattle.machine_turns.specs.Ends.{End, Goes, IsTurn, IsWaiting, Received, core_of, fed_at, held_at, held_of, more, put, turn_of}
+use Rattle.end_machine.specs.declared.driving.Need.{Need}
+use Rattle.end_machine.specs.declared.driving.Need.TheVariants as need
+use Rattle.end_machine.specs.Going.{Turned, need_of, waiting_at, waiting_bytes}
 use Rattle.end_machine.proofs.Measures.{Holds, acts-on, left, takes-on}
-use Rattle.end_machine.proofs.WireLaws.{there-some}
+use Rattle.end_machine.proofs.WireLaws.{itself, there-some}
 
 -- An end rests in its last phase alone.
 
@@ -141,6 +145,33 @@ Moves turn.Marked = Unit {0}
 Moves (turn.NotYet p) = ⊥
 Moves turn.Done = ⊥
 
+pub need-moves : (t : Turn) → need_of t ≡ need.Turn → Moves t
+need-moves turn.Unit is = tt
+need-moves (turn.Sent p) is = tt
+need-moves (turn.Took p) is = tt
+need-moves (turn.Served p) is = tt
+need-moves turn.Marked is = tt
+need-moves (turn.NotYet p) is = absurd (cc (is))
+need-moves turn.Done is = absurd (cc (is))
+
+pub need-waits : (t : Turn) (p : ℕ) → need_of t ≡ need.Bytes p → t ≡ turn.NotYet p
+need-waits turn.Unit p is = absurd (cc (is))
+need-waits (turn.Sent q) p is = absurd (cc (is))
+need-waits (turn.Took q) p is = absurd (cc (is))
+need-waits (turn.Served q) p is = absurd (cc (is))
+need-waits turn.Marked p is = absurd (cc (is))
+need-waits (turn.NotYet q) p is = let same : q ≡ p = cc (is) in ap (λ i. turn.NotYet i) same
+need-waits turn.Done p is = absurd (cc (is))
+
+pub need-stops : (t : Turn) → need_of t ≡ need.Nothing → t ≡ turn.Done
+need-stops turn.Unit is = absurd (cc (is))
+need-stops (turn.Sent p) is = absurd (cc (is))
+need-stops (turn.Took p) is = absurd (cc (is))
+need-stops (turn.Served p) is = absurd (cc (is))
+need-stops turn.Marked is = absurd (cc (is))
+need-stops (turn.NotYet p) is = absurd (cc (is))
+need-stops turn.Done is = refl
+
 zeros : (n p : ℕ) → ◌≡◌ {A = ℕ} (get_or (replicate n 0) p 0) 0
 zeros zero p = refl
 zeros (suc n) zero = refl
@@ -249,3 +280,70 @@ module _ {M : Type 0} (k : MasterModel M) where
         → Holds k plan n (core_of new) × (left k plan n (core_of new) < left k plan n (core_of old))
     moves-less old new t before after f moves holds call =
         acted-less old new t before after (machine_acts k (core_of old)) moves holds refl call.answers call.goes
+
+    -- how much there is left to do, in turns and in bytes that a turn waits for
+    abbrev pub remaining : End M → ℕ
+    remaining e = left k plan n (core_of e) * 65557 + (65556 - waiting_bytes k e)
+
+    turned-less : (old new : End M) → left k plan n (core_of new) < left k plan n (core_of old) → remaining new < remaining old
+    turned-less old new less = times-less (left k plan n (core_of new)) (left k plan n (core_of old)) (waiting_bytes k new) (waiting_bytes k old) less
+      where
+        times-less : (a b c d : ℕ) → a < b → a * 65557 + (65556 - c) < b * 65557 + (65556 - d)
+        times-less a b c d less = omega (arith, less)
+
+    pub step-moves : (old new : End M) (t : Turn) → need_of t ≡ need.Turn → Turned k old new t → Holds k plan n (core_of old)
+        → Holds k plan n (core_of new) × (remaining new < remaining old)
+    step-moves old new t is turned holds =
+        let less = moves-less old new t turned.0 turned.1 None (need-moves t is) holds turned.2 in
+        (less.0, turned-less old new less.1)
+
+    -- One read of a port that is awaited.
+
+    fed-core : (p : ℕ) (piece : List ℕ) (e : End M) → core_of (fed_at None p piece e) ≡ core_of e
+    fed-core p piece e = by (slice_get e.ports p)
+      where
+        by : (o : Option Received) → core_of (put e p (option_map (more piece) o)) ≡ core_of e
+        by None = refl
+        by (Some r) = refl
+
+    fed-held : (p : ℕ) (piece : List ℕ) (e : End M) → p < length e.ports
+        → length (held_at (fed_at None p piece e) p) ≡ length (held_at e p) + length piece
+    fed-held p piece e within =
+        let there = there-some e.ports p within in
+        ap (λ o. length (held_of o)) (fed-ports e p p piece ∙ ap (option_map (more (only_at p piece p))) there.1)
+        ∙ ap (λ b. length (there.0.held ++ (if b then piece else []))) (itself p)
+        ∙ length-append there.0.held piece ∙ ap (λ o. length (held_of o) + length piece) (sym there.1)
+
+    pub read-less : (p : ℕ) (old new : End M) (piece : List ℕ) → p < length old.ports → IsWaiting k p old → 1 ≤ length piece
+        → new ≡ fed_at None p piece old → (core_of new ≡ core_of old) × (remaining new < remaining old)
+    read-less p old new piece within waits some is =
+        let core = ap (λ (e : End M). core_of e) is ∙ fed-core p piece old in
+        let acts = ap (λ h. awaited (machine_acts k h)) core ∙ ap (λ (a : Act M Cause). awaited a) (turned-waits p old waits) in
+        let now : waiting_bytes k new ≡ length (held_at old p) + length piece =
+        ap (waiting_at new) acts ∙ ap (λ (e : End M). length (held_at e p)) is ∙ fed-held p piece old within in
+        let was : waiting_bytes k old ≡ length (held_at old p) =
+        ap (waiting_at old) (ap (λ (a : Act M Cause). awaited a) (turned-waits p old waits)) in
+        let few = first-few (held_at old p) (waits-none p old waits) in
+        let same = ap (left k plan n) core in
+        (core, byte-less (left k plan n (core_of new)) (left k plan n (core_of old)) (waiting_bytes k new) (waiting_bytes k old)
+        (length (held_at old p)) (length piece) same now was few some)
+      where
+        byte-less : (a b c d held size : ℕ) → a ≡ b → c ≡ held + size → d ≡ held → held < 65556 → 1 ≤ size
+            → a * 65557 + (65556 - c) < b * 65557 + (65556 - d)
+        byte-less a b c d held size same now was few some =
+            let product = ap (λ n. n * 65557) same in omega (arith, product, now, was, few, some)
+
+  -- What a step says by what the end needs then.
+
+  pub step-waits : (p : ℕ) (old new : End M) (t : Turn) → need_of t ≡ need.Bytes p → Turned k old new t
+      → IsWaiting k p new × (new ≡ old)
+  step-waits p old new t is turned =
+      let call = subst (λ t. IsTurn k old new turned.0 turned.1 (Ok t) None) (need-waits t p is) turned.2 in
+      let same = waits-same p old new turned.0 turned.1 None call in
+      (subst (IsWaiting k p) (sym same) call.answers, same)
+
+  pub step-stops : (old new : End M) (t : Turn) → need_of t ≡ need.Nothing → Turned k old new t → new.clear.phase ≡ Done
+  step-stops old new t is turned =
+      let call = subst (λ t. IsTurn k old new turned.0 turned.1 (Ok t) None) (need-stops t is) turned.2 in
+      ap (λ (e : End M). e.clear.phase) (done-same old new turned.0 turned.1 None call)
+      ∙ turned-done old new turned.0 turned.1 None call

@@ -20,6 +20,8 @@ use Rattle.machine_turns.specs.declared.fault.TurnFault.TheVariants as turn_faul
 use Rattle.machine_turns.specs.Runs.{only_at}
 use Rattle.machine_core.specs.Machines.{awaited}
 use Rattle.machine_turns.specs.Ends.{End, HasRun, IsTurn, core_of, fed_at, held_at, taken_at}
+use Rattle.end_machine.specs.declared.driving.Need.{Need}
+use Rattle.end_machine.specs.declared.driving.Need.TheVariants as need
 use Rattle.end_machine.specs.Wires.{AllTell, Said, received_on, said_on, sent_on}
 use Rattle.end_machine.specs.Talk.{IfLink}
 use Rattle.end_machine.specs.Driving.{IsInTime, Leaves, Tells}
@@ -124,6 +126,16 @@ port_of (turn.Served p) = None
 port_of turn.Marked = None
 port_of (turn.NotYet p) = None
 port_of turn.Done = None
+
+-- what an end needs after a turn
+abbrev pub need_of : Turn → Need
+need_of turn.Unit = need.Turn
+need_of (turn.Sent p) = need.Turn
+need_of (turn.Took p) = need.Turn
+need_of (turn.Served p) = need.Turn
+need_of turn.Marked = need.Turn
+need_of (turn.NotYet p) = need.Bytes p
+need_of turn.Done = need.Nothing
 
 -- unless memory ran out, a link is blamed
 abbrev pub OnlyLink : {A : Type 0} → Result A TurnFault → Type 0

@@ -10,7 +10,7 @@ ghost use Rattle.machine_turns.specs.Ends.{IsWaiting, SendsAll, fresh};
 ghost use Rattle.end_machine.specs.Wires.{AllTell, Said, said_on};
 ghost use Rattle.end_machine.specs.Talk.{ByTalk};
 ghost use Rattle.end_machine.specs.Driving.{DriveCounts, EndsDirectly, Leaves, NotLink, kept_by};
-ghost use Rattle.end_machine.specs.Going.{Fed, FinishesBy, Going, KeptInRun, OnlyLink, ReadsOn, SendsOn, Settles, Turned, port_of};
+ghost use Rattle.end_machine.specs.Going.{Fed, FinishesBy, Going, KeptInRun, OnlyLink, ReadsOn, SendsOn, Settles, Turned, need_of, port_of};
 
 use cos_api::{Device, Master};
 use cos_base::{Link, NoMemory, Octets};
@@ -44,6 +44,27 @@ fn sent_port(turn: Turn) -> Option<u32>
     match turn {
         Turn::Sent { port } => Some(port),
         _ => None,
+    }
+}
+
+/// What an end needs after a turn.
+enum Need {
+    /// Another turn.
+    Turn,
+    /// Bytes of a port.
+    Bytes { port: u32 },
+    /// All is done.
+    Nothing,
+}
+
+/// What an end needs after a turn that answered this.
+fn need_after(turn: Turn) -> Need
+    ensures { result ≡ need_of turn }
+{
+    match turn {
+        Turn::NotYet { port } => Need::Bytes { port },
+        Turn::Done => Need::Nothing,
+        _ => Need::Turn,
     }
 }
 
@@ -135,16 +156,18 @@ fn run<M: Master, L: Link>(
 {
     'turns: loop {
         match step(end, links, out) {
-            Ok(Turn::Done) => return Ok(()),
-            Ok(Turn::NotYet { port }) => match read_on(end, links, port) {
-                Ok(Pulled::More) => {}
-                Ok(Pulled::End) => {
-                    let fault = finish(end, port);
-                    return Err(TurnFault::Port(PortFault { port, fault }));
-                }
-                Err(fault) => return Err(fault),
+            Ok(turn) => match need_after(turn) {
+                Need::Turn => {}
+                Need::Bytes { port } => match read_on(end, links, port) {
+                    Ok(Pulled::More) => {}
+                    Ok(Pulled::End) => {
+                        let fault = finish(end, port);
+                        return Err(TurnFault::Port(PortFault { port, fault }));
+                    }
+                    Err(fault) => return Err(fault),
+                },
+                Need::Nothing => return Ok(()),
             },
-            Ok(_) => {}
             Err(fault) => return Err(fault),
         }
     }

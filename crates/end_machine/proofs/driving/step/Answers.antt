@@ -1,7 +1,6 @@
-use Rattle.std.proofs.Common.{◌≡◌, ◌<◌, ◌∙◌, ap, drop, length, List, subst, sym, ℕ}
-use Rattle.std.specs.Prelude.{Option, Some, map}
+use Rattle.std.proofs.Common.{◌∙◌, ap, drop, length, List, sym, ℕ}
+use Rattle.std.specs.Prelude.{map}
 use Rattle.std.proofs.lemmas.List.{length-map}
-use Rattle.end_machine.specs.Going.{port_of}
 use Rattle.end_machine.proofs.GoingLaws.{turn-fails, turn-part, turn-quiet, turn-sent}
 use Rattle.end_machine.proofs.driving.step.Goals as goal
 
@@ -14,7 +13,8 @@ pub returns-in-Ok-send_on-clause-goes : goal.returns-in-Ok-send_on-clause-goes
 returns-in-Ok-send_on-clause-goes g c = λ m plan said going.
     turn-sent g.M.Master.model _ said c.args.end.now c.turn.new.self c.clear.new.self.bytes c.turn.new.out.bytes c.as_slice.result.now
     (map g.L.Link.told c.args.links.now) (map g.L.Link.told c.send_on.new.links) c.in-Ok.turn c.in-Some.port
-    (sym c.sent_port.ensures ∙ c.in-Some.is) ?
+    (sym c.sent_port.ensures ∙ c.in-Some.is)
+    (length-map c.args.links.now g.L.Link.told ∙ c.requires.ports) (c.in-Ok.ensures.front c.requires.kept)
     c.in-Ok.ensures.runs (c.as_slice.ensures ∙ sym (ap (λ (b : List ℕ). drop (length b) c.turn.new.out.bytes) c.clear.ensures.bytes))
     c.in-Ok-send_on.ensures.sends going
 
