@@ -17,7 +17,7 @@ use Rattle.cosim_model.specs.Streams.{HasTaken}
 use Rattle.cosim_model.proofs.Streams.{one_more}
 use Rattle.ends_model.specs.declared.ends.Turn.{Turn}
 use Rattle.ends_model.specs.declared.ends.Turn.TheVariants as turn
-use Rattle.ends_model.specs.MachineTurn.{Act, MachineEnd, acts_unless, machine_acts, machine_outlook, machine_takes}
+use Rattle.ends_model.specs.MachineTurn.{MachineEnd, acts_unless, machine_acts, machine_outlook, machine_takes}
 use Rattle.ends_model.specs.MachineTurn.{outlook_of}
 use Rattle.ends_model.specs.MachineTurn.Act.{Awaits}
 use Rattle.rp_packet.specs.declared.fault.Cause.{Cause}
@@ -33,20 +33,14 @@ use Rattle.machine_turns.specs.Ends.{End, Goes, GoesOn, HasRun, IsAtFront, IsAtR
 use Rattle.machine_turns.specs.Ends.{IsWaiting, Sends as Sent, SendsAll, Turns, answer_of, core_of, held_at, held_of}
 use Rattle.machine_turns.specs.Ends.{port_cause, sent_by, taken_at, taken_in, taken_of, turn_of}
 use Rattle.machine_turns.specs.RunLaws.{run-on, run-size, sent-stays}
-use Rattle.machine_turns.specs.StepLaws.{Answer, IsActing, absent, acts-none, clear-core, counted-more, done-halts}
-use Rattle.machine_turns.specs.StepLaws.{front-there, held-after, ok-is, only-nothing, placed-fault, sends-nothing}
-use Rattle.machine_turns.specs.StepLaws.{sends-to, sent-there, set-adds, some-is, some-not, takes-from, there-some}
-use Rattle.machine_turns.specs.StepLaws.{took-nothing, waits-for, zeros}
+use Rattle.machine_turns.specs.StepLaws.{After, Answer, IsActing, absent, acts-none, clear-core, counted-more}
+use Rattle.machine_turns.specs.StepLaws.{done-halts, front-there, held-after, ok-is, only-nothing, placed-fault}
+use Rattle.machine_turns.specs.StepLaws.{sends-nothing, sends-to, sent-there, set-adds, some-is, some-not, takes-from}
+use Rattle.machine_turns.specs.StepLaws.{there-some, took-nothing, turned, waits-for, zeros}
 
 module _ {M : Type 0} (k : MasterModel M) where
-  abbrev After : Type 0
-  After = Taking M × Option (ℕ × List ℕ)
-
-  abbrev turned : Taking M → Streams → Act M Cause → Option After
-  turned h x a = hub_turn_by (machine_alone k packet_codec) h x (outlook_of a)
-
   -- The same turn of the run over all that was received.
-  record Also (x : Streams) (h : Taking M) (v : HubOutlook (MachineEnd M Cause) (Decoded Cause)) (r : After)
+  record Also (x : Streams) (h : Taking M) (v : HubOutlook (MachineEnd M Cause) (Decoded Cause)) (r : After M)
       : Type 0 where
     hub : Taking M
     turn : hub_turn_by (machine_alone k packet_codec) h x v ≡ Some (hub, r.1)
@@ -66,7 +60,7 @@ module _ {M : Type 0} (k : MasterModel M) where
 
   -- what stands at the front of a port's bytes is what the turn takes
   front-taken : (e : End M) (p : ℕ) (m : Option (Decoded Cause × ℕ)) → first (held_at e p) ≡ m
-      → turned (before-turn e) (held_at e) (Awaits p)
+      → turned k (before-turn e) (held_at e) (Awaits p)
       ≡ hub_after_take (machine_alone k packet_codec) (before-turn e) p m
   front-taken e p m front =
       ap (λ i. hub_after_take (machine_alone k packet_codec) (before-turn e) p (first (drop i (held_at e p))))
@@ -81,7 +75,7 @@ module _ {M : Type 0} (k : MasterModel M) where
     counts : (p : ℕ) → p < length e.ports → taken_at e p ≡ counted (get_or run.hub.taken p 0)
     counts p within = run.taken clear p (subst (λ m. p < m) run.size within)
 
-    also-take : (p : ℕ) (m : Option (Decoded Cause × ℕ)) (r : After) → first (held_at e p) ≡ m
+    also-take : (p : ℕ) (m : Option (Decoded Cause × ℕ)) (r : After M) → first (held_at e p) ≡ m
         → hub_after_take (machine_alone k packet_codec) (before-turn e) p m ≡ Some r → Also x run.hub (HubWaits p) r
     also-take p None r front is = absurd (none-some r is)
     also-take p (Some m) r front is =
@@ -96,30 +90,30 @@ module _ {M : Type 0} (k : MasterModel M) where
         record {
           hub = hub;
           turn = ap (hub_after_take (machine_alone k packet_codec) h p) (ap first (sym (stands p within)) ∙ front)
-              ∙ ap (λ (s : After). Some (hub, s.1)) same;
-          core = ap (λ (s : After). s.0.core) (sym same) ∙ ap (λ c. machine_takes k c p m.0) run.core;
+              ∙ ap (λ (s : After M). Some (hub, s.1)) same;
+          core = ap (λ (s : After M). s.0.core) (sym same) ∙ ap (λ c. machine_takes k c p m.0) run.core;
           taken = λ q. set-adds h.taken (length e.ports) p q m.1 long within
-              ∙ ap (λ (s : After). get_or h.taken q 0 + get_or s.0.taken q 0) same;
+              ∙ ap (λ (s : After M). get_or h.taken q 0 + get_or s.0.taken q 0) same;
         }
 
-    also-by : (v : HubOutlook (MachineEnd M Cause) (Decoded Cause)) (r : After)
+    also-by : (v : HubOutlook (MachineEnd M Cause) (Decoded Cause)) (r : After M)
         → hub_turn_by (machine_alone k packet_codec) (before-turn e) (held_at e) v ≡ Some r → Also x run.hub v r
     also-by (HubActs next sends) r is =
         let same = some-is _ r is in
         let hub : Taking M = record { core = next; taken = run.hub.taken } in
         record {
           hub = hub;
-          turn = ap (λ (s : After). Some (hub, s.1)) same;
-          core = ap (λ (s : After). s.0.core) (sym same);
+          turn = ap (λ (s : After M). Some (hub, s.1)) same;
+          core = ap (λ (s : After M). s.0.core) (sym same);
           taken = λ p.
-              let none = ap (λ (s : After). get_or s.0.taken p 0) (sym same) ∙ zeros (length e.ports) p in
+              let none = ap (λ (s : After M). get_or s.0.taken p 0) (sym same) ∙ zeros (length e.ports) p in
               omega (arith, none);
         }
     also-by (HubWaits p) r is =
         also-take p (first (held_at e p)) r refl (sym (front-taken e p (first (held_at e p)) refl) ∙ is)
     also-by HubHalts r is = absurd (none-some r is)
 
-    turned-run : (later : Streams) (new : End M) (before after : List ℕ) (r : After) → turn_of k e ≡ Some r
+    turned-run : (later : Streams) (new : End M) (before after : List ℕ) (r : After M) → turn_of k e ≡ Some r
         → Goes (Some r) e new before after → length new.ports ≡ length e.ports
         → ((p : ℕ) → later p ≡ sent p ++ to_leaf n r.1 (suc p)) → Took x new run.hub r.0.taken
         → HasRun k start n x later new
@@ -160,7 +154,7 @@ module _ {M : Type 0} (k : MasterModel M) where
         let count : get_or run.hub.taken p 0 ≡ get_or run.hub.taken p 0 + get_or more p 0 = omega (arith, none) in
         subst (λ i. HasTaken packet_codec (x p) i None) count (run.packets clear p)
 
-    acted : (t : Turn) (new : End M) (r : After) → IsActing t → answer_of k e ≡ Some (Ok t) → new.kept ≡ None
+    acted : (t : Turn) (new : End M) (r : After M) → IsActing t → answer_of k e ≡ Some (Ok t) → new.kept ≡ None
         → turn_of k e ≡ Some r → Took x new run.hub r.0.taken
     acted t new r acting answers keeps is =
         let a = machine_acts k (core_of e) in
@@ -174,15 +168,15 @@ module _ {M : Type 0} (k : MasterModel M) where
     none-more : (n : ℕ) → ◌≡◌ {A = ℕ} (0 + n) n
     none-more n = omega arith
 
-    took-one : (q : ℕ) (m : Packet) (size : ℕ) (new : End M) (r : After) → first (held_at e q) ≡ Some (Valid m, size)
+    took-one : (q : ℕ) (m : Packet) (size : ℕ) (new : End M) (r : After M) → first (held_at e q) ≡ Some (Valid m, size)
         → machine_acts k (core_of e) ≡ Awaits q → new.kept ≡ None → turn_of k e ≡ Some r → Took x new run.hub r.0.taken
     took-one q m size new r front acts keeps is =
         let within = front-there e q (Valid m, size) front in
-        let taking = sym (ap (turned (before-turn e) (held_at e)) acts
+        let taking = sym (ap (turned k (before-turn e) (held_at e)) acts
         ∙ front-taken e q (Some (Valid m, size)) front) ∙ is in
         let same = some-is _ r taking in
         let here : get_or r.0.taken q 0 ≡ size =
-        ap (λ (s : After). get_or s.0.taken q 0) (sym same)
+        ap (λ (s : After M). get_or s.0.taken q 0) (sym same)
         ∙ get_or-set_same (replicate (length e.ports) 0) q (get_or (replicate (length e.ports) 0) q 0 + size) 0
         (subst (λ m. q < m) (sym (length-replicate (length e.ports) 0)) within)
         ∙ ap (λ i. i + size) (zeros (length e.ports) q) ∙ none-more size in
@@ -194,14 +188,14 @@ module _ {M : Type 0} (k : MasterModel M) where
               elim (cases_eq p q) as (λ _. Has p (get_or r.0.taken p 0)) [
                 | inl equal ↦ subst (λ i. Has i (get_or r.0.taken i 0)) (sym equal)
                     (subst (λ n. Has q n) (sym here) (had.0 ++ m ∷ [], more))
-                | inr apart ↦ unmoved p r.0.taken (ap (λ (s : After). get_or s.0.taken p 0) (sym same)
+                | inr apart ↦ unmoved p r.0.taken (ap (λ (s : After M). get_or s.0.taken p 0) (sym same)
                     ∙ get_or-set_other (replicate (length e.ports) 0) q p
                     (get_or (replicate (length e.ports) 0) q 0 + size) 0 apart ∙ zeros (length e.ports) p)
               ];
           placed = subst (IsPlacedAt x) (sym keeps) tt;
         }
 
-    faulted : (f : PortFault) (new : End M) (r : After) → new.kept ≡ Some f
+    faulted : (f : PortFault) (new : End M) (r : After M) → new.kept ≡ Some f
         → IsBlamedAt (taken_at e f.port) (held_at e f.port) f.fault → Took x new run.hub r.0.taken
     faulted f new r keeps blamed = record {
       packets = λ none. absurd (some-not new.kept f keeps none);
@@ -250,14 +244,14 @@ module _ {M : Type 0} (k : MasterModel M) where
 
   waits-turn : (p : ℕ) (e : End M) → IsWaiting k p e → turn_of k e ≡ None
   waits-turn p e waits =
-      ap (turned (before-turn e) (held_at e)) (waits-at e p waits).0 ∙ front-taken e p None (waits-none p e waits)
+      ap (turned k (before-turn e) (held_at e)) (waits-at e p waits).0 ∙ front-taken e p None (waits-none p e waits)
 
   -- one that waits for a packet of a port that is there has taken every turn
   pub waits-rests : (p : ℕ) (e : End M) → IsWaiting k p e → p < length e.ports → IsAtRest k e
   waits-rests p e waits there start n x sent run =
       let front = ap first (sym (stands start n x sent e (waits-clear p e waits) run p there)) ∙ waits-none p e waits in
       ap (λ c. hub_turn_by (machine_alone k packet_codec) run.hub x (machine_outlook k c)) (sym run.core)
-      ∙ ap (turned run.hub x) (waits-at e p waits).0
+      ∙ ap (turned k run.hub x) (waits-at e p waits).0
       ∙ ap (hub_after_take (machine_alone k packet_codec) run.hub p) front
 
   -- the run of an end that can take no more turns is whole
@@ -275,14 +269,14 @@ module _ {M : Type 0} (k : MasterModel M) where
 
     moved-run : (answer : Answer) (kept : Option PortFault) → IsTurn k old new before after answer kept
         → (after ≡ before → (q : ℕ) → later q ≡ sent q)
-        → ((r : After) → turn_of k old ≡ Some r → old.kept ≡ None → after ≡ before ++ sent_by r.1 → length old.ports ≡ n
-        → (q : ℕ) → later q ≡ sent q ++ to_leaf n r.1 (suc q))
-        → ((r : After) → turn_of k old ≡ Some r → (clear : old.kept ≡ None) → (run : HasRun k start n x sent old)
+        → ((r : After M) → turn_of k old ≡ Some r → old.kept ≡ None → after ≡ before ++ sent_by r.1
+        → length old.ports ≡ n → (q : ℕ) → later q ≡ sent q ++ to_leaf n r.1 (suc q))
+        → ((r : After M) → turn_of k old ≡ Some r → (clear : old.kept ≡ None) → (run : HasRun k start n x sent old)
         → Took x new run.hub r.0.taken)
         → HasRun k start n x sent old → HasRun k start n x later new
     moved-run answer kept call quiet more took run = by (turn_of k old) refl old.kept refl call.goes
       where
-        by : (o : Option After) → turn_of k old ≡ o → (had : Option PortFault) → old.kept ≡ had
+        by : (o : Option (After M)) → turn_of k old ≡ o → (had : Option PortFault) → old.kept ≡ had
             → Goes o old new before after → HasRun k start n x later new
         by None is was goes_was goes = still-run goes.0 (quiet goes.1) run
         by (Some r) is (Some f) was goes = absurd (absent r (sym is ∙ halts-turn old (kept-halts old f was)))
@@ -293,7 +287,7 @@ module _ {M : Type 0} (k : MasterModel M) where
     -- a turn that sends nothing
     quiet-run : (answer : Answer) (kept : Option PortFault) → IsTurn k old new before after answer kept
         → ((p : ℕ) → answer ≡ Ok (turn.Sent p) → ⊥) → ((q : ℕ) → later q ≡ sent q)
-        → ((r : After) → turn_of k old ≡ Some r → (clear : old.kept ≡ None) → (run : HasRun k start n x sent old)
+        → ((r : After M) → turn_of k old ≡ Some r → (clear : old.kept ≡ None) → (run : HasRun k start n x sent old)
         → Took x new run.hub r.0.taken)
         → HasRun k start n x sent old → HasRun k start n x later new
     quiet-run answer kept call other same took run =
@@ -354,10 +348,21 @@ module _ {M : Type 0} (k : MasterModel M) where
   call-runs old new before after result call front start n x sent later sends run =
       call-run start n x sent later old new before after result call front sends run
 
-  same-after : (old new : End M) (before after : List ℕ) (o : Option After) → o ≡ None → Goes o old new before after
-      → new ≡ old
-  same-after old new before after None is goes = goes.0
+  same-after : (old new : End M) (before after : List ℕ) (o : Option (After M)) → o ≡ None
+      → Goes o old new before after → (new ≡ old) × (after ≡ before)
+  same-after old new before after None is goes = goes
   same-after old new before after (Some r) is goes = absurd (absent r is)
+
+  -- a turn that finds no packet whole changes nothing, and the end waits
+  pub waits-same : (p : ℕ) (old new : End M) (before after : List ℕ)
+      → IsTurn k old new before after (Ok (turn.NotYet p)) None → (new ≡ old) × (after ≡ before)
+  waits-same p old new before after call =
+      same-after old new before after (turn_of k old) (waits-turn p old call.answers) call.goes
+
+  pub call-waits : (p : ℕ) (old new : End M) (before after : List ℕ)
+      → IsTurn k old new before after (Ok (turn.NotYet p)) None → IsWaiting k p new
+  call-waits p old new before after call =
+      subst (λ e. IsWaiting k p e) (sym (waits-same p old new before after call).0) call.answers
 
   pub kept-all : (e : End M) (f : PortFault) → e.kept ≡ Some f → SendsAll k (Err (turn_fault.Port f)) e
   kept-all e f kept = halts-rests e (kept-halts e f kept)
@@ -370,11 +375,11 @@ module _ {M : Type 0} (k : MasterModel M) where
       → Turns k old new before after result → ((p : ℕ) → IsWaiting k p old → p < length old.ports)
       → SendsAll k result new
   call-all old new before after (Ok (turn.NotYet p)) call there =
-      rests-same old new (same-after old new before after (turn_of k old) (waits-turn p old call.answers) call.goes)
+      rests-same old new (waits-same p old new before after call).0
       (waits-rests p old call.answers (there p call.answers))
   call-all old new before after (Ok turn.Done) call there =
       let halts = done-halts k (core_of old) (whole-of old) (machine_acts k (core_of old)) call.answers in
-      rests-same old new (same-after old new before after (turn_of k old) (halts-turn old halts) call.goes)
+      rests-same old new (same-after old new before after (turn_of k old) (halts-turn old halts) call.goes).0
       (halts-rests old halts)
   call-all old new before after (Ok turn.Unit) call there = tt
   call-all old new before after (Ok (turn.Sent p)) call there = tt

@@ -163,7 +163,7 @@ kept_after kept p (end_fault.Astray cmd) = Some (record { port = p; fault = end_
 
 -- What stood at the front of a port's bytes, by what a turn of an end that kept no fault answered: a packet was taken;
 -- a malformed one is told, which begins behind the bytes that were taken; or a packet is told that breaks a rule, or
--- that came too late. There is no other fault.
+-- that came too late. There is no other fault. A port that is sent to or waited for is there.
 
 abbrev pub IsBlamedAt : ℕ → List ℕ → EndFault PacketFault → Type 0
 IsBlamedAt taken held (end_fault.Malformed f) =
@@ -183,7 +183,7 @@ IsAtFront e (Ok turn.Unit) = Unit {0}
 IsAtFront e (Ok (turn.Sent p)) = p < length e.ports
 IsAtFront e (Ok (turn.Served p)) = Unit {0}
 IsAtFront e (Ok turn.Marked) = Unit {0}
-IsAtFront e (Ok (turn.NotYet p)) = Unit {0}
+IsAtFront e (Ok (turn.NotYet p)) = p < length e.ports
 IsAtFront e (Ok turn.Done) = Unit {0}
 IsAtFront e (Err (turn_fault.Port f)) = IsBlamedAt (taken_at e f.port) (held_at e f.port) f.fault
 IsAtFront e (Err turn_fault.NoMemory) = Unit {0}

@@ -164,13 +164,15 @@ Answer = Result Turn (ℕ × EndFault Cause)
 pub ok-is : (t u : Turn) → ◌≡◌ {A = Answer} (Ok t) (Ok u) → t ≡ u
 ok-is t u is = cc (is)
 
+-- what a turn leaves and sends
+abbrev pub After : Type 0 → Type 0
+After M = Taking M × Option (ℕ × List ℕ)
+
+-- the turn of an end that does this
+abbrev pub turned : {M : Type 0} → MasterModel M → Taking M → Streams → Act M Cause → Option (After M)
+turned k h x a = hub_turn_by (machine_alone k packet_codec) h x (outlook_of a)
+
 module _ {M : Type 0} (k : MasterModel M) where
-  abbrev pub After : Type 0
-  After = Taking M × Option (ℕ × List ℕ)
-
-  abbrev pub turned : Taking M → Streams → Act M Cause → Option After
-  turned h x a = hub_turn_by (machine_alone k packet_codec) h x (outlook_of a)
-
   -- What an answer shows of what the end did.
 
   module _ (c : MachineEnd M Cause) (whole : ℕ → Option (Decoded Cause)) where
@@ -238,42 +240,43 @@ module _ {M : Type 0} (k : MasterModel M) where
   -- What a turn takes and sends.
 
   module _ (h : Taking M) (x : Streams) where
-    pub took-nothing : (a : Act M Cause) (r : After) → awaited a ≡ None → turned h x a ≡ Some r → r.0.taken ≡ h.taken
-    took-nothing (Works next) r none is = ap (λ (r : After). r.0.taken) (sym (some-is _ r is))
-    took-nothing (Sends p m next) r none is = ap (λ (r : After). r.0.taken) (sym (some-is _ r is))
+    pub took-nothing : (a : Act M Cause) (r : After M) → awaited a ≡ None → turned k h x a ≡ Some r
+        → r.0.taken ≡ h.taken
+    took-nothing (Works next) r none is = ap (λ (r : After M). r.0.taken) (sym (some-is _ r is))
+    took-nothing (Sends p m next) r none is = ap (λ (r : After M). r.0.taken) (sym (some-is _ r is))
     took-nothing (Awaits p) r none is = absurd (absent p none)
-    took-nothing (Serves p next) r none is = ap (λ (r : After). r.0.taken) (sym (some-is _ r is))
-    took-nothing (Marks next) r none is = ap (λ (r : After). r.0.taken) (sym (some-is _ r is))
+    took-nothing (Serves p next) r none is = ap (λ (r : After M). r.0.taken) (sym (some-is _ r is))
+    took-nothing (Marks next) r none is = ap (λ (r : After M). r.0.taken) (sym (some-is _ r is))
     took-nothing Rests r none is = absurd (none-some r is)
     took-nothing (Fails p f) r none is = absurd (none-some r is)
     took-nothing Lost r none is = absurd (none-some r is)
 
-    take-quiet : (p : ℕ) (m : Option (Decoded Cause × ℕ)) (r : After)
+    take-quiet : (p : ℕ) (m : Option (Decoded Cause × ℕ)) (r : After M)
         → hub_after_take (machine_alone k packet_codec) h p m ≡ Some r → r.1 ≡ None
     take-quiet p None r is = absurd (none-some r is)
-    take-quiet p (Some m) r is = ap (λ (r : After). r.1) (sym (some-is _ r is))
+    take-quiet p (Some m) r is = ap (λ (r : After M). r.1) (sym (some-is _ r is))
 
     pub sends-nothing : (c : MachineEnd M Cause) (whole : ℕ → Option (Decoded Cause)) (a : Act M Cause)
-        (answer : Answer) (r : After) → answer_by k c whole a ≡ Some answer
-        → ((p : ℕ) → answer ≡ Ok (turn.Sent p) → ⊥) → turned h x a ≡ Some r → r.1 ≡ None
-    sends-nothing c whole (Works next) answer r answers other is = ap (λ (r : After). r.1) (sym (some-is _ r is))
+        (answer : Answer) (r : After M) → answer_by k c whole a ≡ Some answer
+        → ((p : ℕ) → answer ≡ Ok (turn.Sent p) → ⊥) → turned k h x a ≡ Some r → r.1 ≡ None
+    sends-nothing c whole (Works next) answer r answers other is = ap (λ (r : After M). r.1) (sym (some-is _ r is))
     sends-nothing c whole (Sends p m next) answer r answers other is =
         absurd (other p (sym (some-is (Ok (turn.Sent p)) answer answers)))
     sends-nothing c whole (Awaits p) answer r answers other is =
         take-quiet p (first (drop (get_or h.taken p 0) (x p))) r is
-    sends-nothing c whole (Serves p next) answer r answers other is = ap (λ (r : After). r.1) (sym (some-is _ r is))
-    sends-nothing c whole (Marks next) answer r answers other is = ap (λ (r : After). r.1) (sym (some-is _ r is))
+    sends-nothing c whole (Serves p next) answer r answers other is = ap (λ (r : After M). r.1) (sym (some-is _ r is))
+    sends-nothing c whole (Marks next) answer r answers other is = ap (λ (r : After M). r.1) (sym (some-is _ r is))
     sends-nothing c whole Rests answer r answers other is = absurd (none-some r is)
     sends-nothing c whole (Fails p f) answer r answers other is = absurd (none-some r is)
     sends-nothing c whole Lost answer r answers other is = absurd (none-some r is)
 
-    pub sends-to : (c : MachineEnd M Cause) (whole : ℕ → Option (Decoded Cause)) (a : Act M Cause) (p : ℕ) (r : After)
-        → answer_by k c whole a ≡ Some (Ok (turn.Sent p)) → turned h x a ≡ Some r
+    pub sends-to : (c : MachineEnd M Cause) (whole : ℕ → Option (Decoded Cause)) (a : Act M Cause) (p : ℕ) (r : After M)
+        → answer_by k c whole a ≡ Some (Ok (turn.Sent p)) → turned k h x a ≡ Some r
         → (bytes : List ℕ) × (r.1 ≡ Some (p, bytes))
     sends-to c whole (Works next) p r answers is = absurd (cc (answers))
     sends-to c whole (Sends q m next) p r answers is =
         let same : q ≡ p = cc (answers) in
-        let sent = ap (λ (r : After). r.1) (sym (some-is _ r is)) in
+        let sent = ap (λ (r : After M). r.1) (sym (some-is _ r is)) in
         (_, sent ∙ ap (λ i. Some (i, packet_codec.write m)) same)
     sends-to c whole (Awaits q) p r answers is =
         absurd (not-acting c whole q (turn.Sent p) (whole q) (some-is _ _ answers) tt)
