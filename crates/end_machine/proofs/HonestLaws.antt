@@ -1,11 +1,13 @@
 -- Over honest links driving ends as the direct machine does.
-use Rattle.std.proofs.Common.{◌≡◌, ℕ, zero, suc, List, ◌++◌, drop, length, get_or, refl, sym, ap, ◌∙◌, subst, Result, Ok, Err}
-use Rattle.std.specs.Prelude.{Option, Some, None, slice_get}
+use Rattle.std.proofs.Common.{◌≡◌, ℕ, zero, suc, List, ◌++◌, drop, length, get_or, map, refl, sym, ap, ◌∙◌, subst, Result, Ok, Err}
+use Rattle.std.specs.Prelude.{Option, Some, None, IfSome, slice_get}
 use Rattle.std.proofs.lemmas.Option.{none-some}
+use Rattle.std.proofs.lemmas.List.{length-map}
 use Rattle.process_network.specs.Network.{Streams}
 use Rattle.process_network.specs.PacketStar.{HubOutlook, fresh_hub, hub_after_take, hub_turn_by, star_of}
 use Rattle.process_network.specs.PacketStar.HubOutlook.{HubActs, HubWaits, HubHalts}
 use Rattle.process_network.specs.StarTalk.{IsHubRun, StarTalk}
+use Rattle.cos_base.specs.Links.{Wire, IsWire}
 use Rattle.cosim_model.specs.declared.session.EndFault.{EndFault}
 use Rattle.cosim_model.specs.declared.session.EndFault.TheVariants as fault
 use Rattle.cosim_model.specs.declared.values.Plan.{Plan}
@@ -23,10 +25,12 @@ use Rattle.rp_packet.specs.Streams.{packet_codec}
 use Rattle.machine_turns.specs.declared.fault.TurnFault.{TurnFault}
 use Rattle.machine_turns.specs.declared.fault.TurnFault.TheVariants as turn_fault
 use Rattle.machine_turns.specs.Runs.{IsRun, Rests, Taking, machine_alone}
-use Rattle.end_machine.specs.Wires.{Said}
+use Rattle.end_machine.specs.Wires.{AllTell, Said, said_on}
 use Rattle.end_machine.specs.Talk.{ByTalk, EndsSo, FailsSo, TalkEnds}
-use Rattle.end_machine.specs.Driving.{EndsDirectly}
-use Rattle.end_machine.proofs.DriveLaws.{looks-done, not-halts}
+use Rattle.end_machine.specs.Driving.{EndsDirectly, Leaves}
+use Rattle.end_machine.proofs.DriveLaws.{leaves-talk, looks-done, not-halts, telling-on}
+use Rattle.end_machine.proofs.RunLaws.{wires-at}
+use Rattle.end_machine.proofs.WireLaws.{tell-size, tell-some}
 
 module _ {M S : Type 0} (k : MasterModel M) (d : DeviceModel S) where
   -- a machine end alone takes the turns of the one among device ends
@@ -131,3 +135,34 @@ module _ {M S : Type 0} (k : MasterModel M) (d : DeviceModel S) where
         by p (fault.TooMuch n) talk = done-directly said e _ talk device master fit honest
         by p (fault.Astray n) talk = done-directly said e _ talk device master fit honest
         by p fault.NoMemory talk = done-directly said e _ talk device master fit honest
+
+-- What drive promises of lists of links.
+
+module _ {M X : Type 0} (k : MasterModel M) (plan : Plan) (m : M) (told : X → Option Wire) (law : (l : X) → IfSome (told l) IsWire)
+    (ls ns : List X) (size : length ns ≡ length ls) (start : MachineEnd M Cause) (ws : List Wire) (tell : AllTell (map told ls) ws)
+    (is : start ≡ machine_start Cause m (length ls) plan) where
+  count : length (map told ns) ≡ length ws
+  count = length-map ns told ∙ size ∙ sym (length-map ls told) ∙ tell-size (map told ls) ws tell
+
+  given : (p : ℕ) (w : Wire) → slice_get ws p ≡ Some w → IsWire w
+  given p w here = wires-at told law ls p w (tell-some (map told ls) ws p w tell here)
+
+  pub drives-talk : (e : MachineEnd M Cause) (r : Result Unit TurnFault) → Leaves k start (said_on ws) e r (map told ns)
+      → ByTalk k start (length ws) (said_on ws) e r
+  drives-talk e r left =
+      let now = length-map ns told ∙ size in
+      let here : start ≡ machine_start Cause m (length (map told ns)) plan = is ∙ ap (λ n. machine_start Cause m n plan) (sym now) in
+      subst (λ s. ByTalk k s (length ws) (said_on ws) e r) (sym here)
+      (subst (λ n. ByTalk k (machine_start Cause m (length (map told ns)) plan) n (said_on ws) e r) count
+      (leaves-talk k plan m (said_on ws) e r (map told ns) (telling-on ws given) (λ p w here. wires-at told law ns p w here)
+      (subst (λ s. Leaves k s (said_on ws) e r (map told ns)) here left)))
+
+  pub drives-directly : {S : Type 0} (d : DeviceModel S) (xs : List (Side × S)) (e : MachineEnd M Cause) (r : Result Unit TurnFault)
+      → Leaves k start (said_on ws) e r (map told ns) → length xs ≡ length ws → IsDevice d → IsMaster k → Fit k d plan m xs
+      → IsHonest k d packet_codec plan m xs (said_on ws) → EndsDirectly k d plan m xs e r
+  drives-directly d xs e r left fits device master fit honest =
+      let ports : length ls ≡ length xs = sym (length-map ls told) ∙ tell-size (map told ls) ws tell ∙ sym fits in
+      let here : start ≡ machine_start Cause m (length xs) plan = is ∙ ap (λ n. machine_start Cause m n plan) ports in
+      ends-directly k d plan m xs (said_on ws) e r
+      (subst (λ s. ByTalk k s (length xs) (said_on ws) e r) here
+      (subst (λ n. ByTalk k start n (said_on ws) e r) (sym fits) (drives-talk e r left))) device master fit honest
