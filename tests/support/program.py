@@ -1,7 +1,7 @@
-"""The built program, and the mismatches that a script of tests/ finds.
+"""The built programs, and the mismatches that a script of tests/ finds.
 
 The program is COSIM, where that is set; else crates/cosim/out/cosim, where `rt ci` and `rt run` leave it; where it isn't there, `rt run`
-builds it.
+builds it. So is the program that drives a machine's end over links in memory: MEMORY_RUN, or crates/memory_run/out/memory_run.
 """
 
 import os
@@ -9,25 +9,33 @@ import subprocess
 import sys
 
 TOP = os.path.dirname(os.path.dirname(os.path.dirname(os.path.abspath(__file__))))
-CRATE = os.path.join(TOP, "crates", "cosim")
-PROGRAM = os.path.abspath(os.environ.get("COSIM") or os.path.join(CRATE, "out", "cosim"))
+
+
+def place(crate, variable):
+    """Where the program of a crate is."""
+    return os.path.abspath(os.environ.get(variable) or os.path.join(TOP, "crates", crate, "out", crate))
+
+
+PROGRAM = place("cosim", "COSIM")
+MEMORY_RUN = place("memory_run", "MEMORY_RUN")
 SECONDS = 60
 SHOWN = 50
 
 failures = []
 
 
-def built():
-    """Builds the program where no run of the gate left it."""
-    if not os.path.exists(PROGRAM):
-        subprocess.run(["rt", "run"], cwd=CRATE, stdout=subprocess.DEVNULL, stderr=subprocess.DEVNULL, check=False)
-    if not os.path.exists(PROGRAM):
-        sys.exit(f"{PROGRAM} isn't there, and `rt run` in {CRATE} didn't build it")
+def built(program=PROGRAM, crate="cosim"):
+    """Builds a program where no run of the gate left it."""
+    folder = os.path.join(TOP, "crates", crate)
+    if not os.path.exists(program):
+        subprocess.run(["rt", "run"], cwd=folder, stdout=subprocess.DEVNULL, stderr=subprocess.DEVNULL, check=False)
+    if not os.path.exists(program):
+        sys.exit(f"{program} isn't there, and `rt run` in {folder} didn't build it")
 
 
-def run(words, folder=None, out=subprocess.PIPE):
-    """The program run to its end in a folder, with nothing on standard input."""
-    return subprocess.run([PROGRAM, *words], cwd=folder, stdin=subprocess.DEVNULL, stdout=out, stderr=subprocess.PIPE, timeout=SECONDS, check=False)
+def run(words, folder=None, out=subprocess.PIPE, program=PROGRAM):
+    """A program run to its end in a folder, with nothing on standard input."""
+    return subprocess.run([program, *words], cwd=folder, stdin=subprocess.DEVNULL, stdout=out, stderr=subprocess.PIPE, timeout=SECONDS, check=False)
 
 
 def check(row, what, got, wanted):

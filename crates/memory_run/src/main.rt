@@ -5,7 +5,8 @@
 //!
 //! `memory_run said FILE CUT UNITS [SCRIPT]` drives the end of a machine with one port, whose peer says the bytes of FILE whatever it
 //! hears. The machine does what the script says (`read 0 0x0 4` where none is named), in UNITS units. It prints how that ended, how
-//! many bytes were sent, the numbers of calls and of ticks, the first 8 bytes of its memory, and what a further turn answers and sends.
+//! many bytes were sent and which, the numbers of calls and of ticks, the first 8 bytes of its memory, and what a further turn answers
+//! and how many bytes it sends.
 #![tactic(auto)]
 
 mod configured;

@@ -9,6 +9,7 @@ use cos_base::{NoMemory, Numbers, Octets, Sink};
 use cos_memory::{MemLink, Said};
 use cos_parts::{AnyDevice, AnyMaster};
 use cos_script::{ScriptFault, ScriptMaster};
+use cos_text::push_bytes;
 use cosim_model::Plan;
 use end_machine::drive;
 use machine_turns::{MachineEnd, Turn, TurnFault};
@@ -25,6 +26,9 @@ const FRONT: u64 = 0x8000_0000;
 
 /// How many bytes of memory there are.
 const SIZE: u32 = 4096;
+
+/// How many bytes are spelled at once.
+const PIECE: usize = 256;
 
 /// How many units there are between two boundaries.
 const QUANTUM: u64 = 10;
@@ -55,16 +59,24 @@ fn put_number<K: Sink>(alloc: Global, name: &str, number: u64, out: &mut K) -> R
     Ok(out.put(line.as_bytes())?)
 }
 
+/// Prints a line of a name and bytes.
+fn put_bytes<K: Sink>(alloc: Global, name: &str, bytes: &[u8], out: &mut K) -> Result<(), Stopped> {
+    let mut digits = Octets::make(alloc);
+    out.put(name.as_bytes())?;
+    for piece in bytes.chunks(PIECE) {
+        digits.clear();
+        digits.reserve(2 * PIECE)?;
+        push_bytes(&mut digits, piece);
+        out.put(digits.as_slice())?;
+    }
+    Ok(out.put(b"\n")?)
+}
+
 /// Prints the first 8 bytes of the memory.
 fn put_memory<K: Sink>(alloc: Global, master: &AnyMaster, out: &mut K) -> Result<(), Stopped> {
     let mut bytes = [0u8; 8];
     let _code = master.read(FRONT, &mut bytes);
-    let value = u64::from_be_bytes(bytes);
-    let line = match format!(in alloc; "ram {value:016x}\n") {
-        Ok(line) => line,
-        Err(_) => return Err(Stopped::NoMemory),
-    };
-    Ok(out.put(line.as_bytes())?)
+    put_bytes(alloc, "ram ", &bytes, out)
 }
 
 /// Prints a fault, as the program tells it.
@@ -109,7 +121,9 @@ fn put_ended<K: Sink>(
         Ok(()) => out.put(b"done\n")?,
         Err(fault) => put_fault(fault, out)?,
     }
-    put_number(alloc, "sent", link.link().peer().heard().len() as u64, out)?;
+    let heard = link.link().peer().heard();
+    put_number(alloc, "sent", heard.len() as u64, out)?;
+    put_bytes(alloc, "heard ", heard, out)?;
     put_number(alloc, "calls", end.calls().len() as u64, out)?;
     put_number(alloc, "ticks", end.ticks(), out)?;
     put_memory(alloc, end.master(), out)?;
