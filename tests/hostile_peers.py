@@ -13,7 +13,7 @@ import struct
 import sys
 import tempfile
 
-from support.machine import ANSWER, CFG, HELLO, INTERRUPT, NOP, POSTED, RAM, READ, SYNC, WRITE
+from support.machine import ANSWER, CFG, NOP, POSTED, RAM, READ, WRITE
 from support.machine import access, coded, hello, interrupt, packet, sync, written
 from support.program import MEMORY_RUN, built, check, run, told
 
@@ -124,7 +124,7 @@ GATHERING = {
     "the read's answer again": Row(MET + READ_ANSWER + READ_ANSWER, "StrayAnswer 1 3", GONE_ON),
     "a want later than the sync": Row(MET + READ_ANSWER + interrupt(1, 2, 0, 1), "LateWant 1 2", GONE_ON),
     "a posted want later than the sync": Row(MET + READ_ANSWER + interrupt(1, 2, 0, 1, POSTED), "LateWant 1 2", GONE_ON),
-    "8,190 nops and the answer, then a want and the end": Row(MET + NOPS * 8190 + READ_ANSWER, f"Ended {20 * 8190 + 128}", GONE_ON),
+    "8,190 nops and the answer, then the end": Row(MET + NOPS * 8190 + READ_ANSWER, f"Ended {20 * 8190 + 128}", GONE_ON),
 }
 
 # wants that are served, and what ends the conversation behind them
@@ -154,7 +154,7 @@ SERVING = {
     "a read of nothing": Row(MET + READ_ANSWER + fetch(1, 1, size=0) + LAST, "done", GONE_ON + fetched(1, 1, b"", code=1), 1, 1),
     "a read of 4,096 bytes": Row(MET + READ_ANSWER + fetch(1, 1, size=4096) + LAST, "done", GONE_ON + fetched(1, 1, bytes(4096)), 1, 1),
     "wants that go back in time": Row(MET + READ_ANSWER + fetch(1, 1) + fetch(2, 0), "TimeBackwards 1 0", GONE_ON + fetched(1, 1), 2, 1),
-    "a want at the end of its answer": Row(MET + READ_ANSWER + fetch(1, 1), "Ended 208", GONE_ON + fetched(1, 1), 2, 1),
+    "a want, and then the end": Row(MET + READ_ANSWER + fetch(1, 1), "Ended 208", GONE_ON + fetched(1, 1), 2, 1),
 }
 
 # other scripts: of nothing, in no units, and of four reads
@@ -170,7 +170,7 @@ SCRIPTS = {
         MET + THREE_ANSWERED + access(READ, 3, ANSWER, 3, 0, 4, bytes(4)), "StrayAnswer 3 3", FOUR_ASKED, 3, 3, script=FOUR,
     ),
     "8,192 interrupts at the sync": Row(MET + floods(1, 8193), "Flood 8192", SYNCED, 8191, 0, script="", units=0),
-    "8,191 interrupts at the sync": Row(MET + floods(1, 8192) , f"Ended {44 + 41 * 8191}", SYNCED, 8191, 0, script="", units=0),
+    "8,191 interrupts at the sync": Row(MET + floods(1, 8192), f"Ended {44 + 41 * 8191}", SYNCED, 8191, 0, script="", units=0),
     "8,191 interrupts and the sync's answer": Row(MET + floods(1, 8192) + sync(1, 0, ANSWER), "Flood 8192", SYNCED, 8191, 0, script="", units=0),
     "8,190 interrupts and the sync's answer": Row(MET + floods(1, 8191) + sync(1, 0, ANSWER), "done", SYNCED, 8190, 0, script="", units=0),
 }
