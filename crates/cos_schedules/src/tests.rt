@@ -1,0 +1,1 @@
+// Lists of steps and rounds that are worked by hand.
