@@ -1,3 +1,4 @@
 pub mod Texts
 pub mod Schedules
 pub mod Courses
+pub mod Stars

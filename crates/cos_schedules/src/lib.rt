@@ -3,6 +3,7 @@
 
 mod draws;
 mod fault;
+mod laws;
 mod line;
 mod rounds;
 mod step;
@@ -10,6 +11,7 @@ mod steps;
 
 pub use draws::Draws;
 pub use fault::StepsFault;
+pub use laws::{gives_its_rounds, rounds_are_whole};
 pub use rounds::Rounds;
 pub use step::{Step, Way};
 pub use steps::{Steps, read_steps};
