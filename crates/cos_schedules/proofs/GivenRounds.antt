@@ -24,10 +24,10 @@ none-next c [] zero e = refl
 none-next c [] (suc i) e = absurd (omega arith)
 none-next c (s ∷ ss) i e = absurd (omega arith)
 
-next-begun : (c : Course) (s : Step) (ss left : List Step) → AreNextOf (begun_at c left) (s ∷ ss) → (begun_at c left).left ≡ (begun_at c left).left → AreNext c.number c.ports c.x left (s ∷ ss)
+next-begun : (c : Course) (s : Step) (ss left : List Step) → AreNextOf (begun_at c left) (s ∷ ss) → left ≡ c.left → AreNext c.number c.ports c.x left (s ∷ ss)
 next-begun c s ss [] are e zero h = absurd (omega arith)
 next-begun c s ss [] are e (suc i) h = are i (omega (arith, length-round c.number c.ports c.x))
-next-begun c s ss (t ∷ ts) are e i h = ?
+next-begun c s ss (t ∷ ts) are e i h = subst (λ l. AreNext c.number c.ports c.x l (s ∷ ss)) (sym e) are i h
 
 next-more : (c : Course) (s : Step) (ss : List Step) → AreNextOf c ss → AreNextOf (record c { left = s ∷ c.left }) (s ∷ ss)
 next-more c s ss are i e = ap (λ xs. s ∷ xs) (are i (omega arith))

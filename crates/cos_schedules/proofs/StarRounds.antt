@@ -1,5 +1,5 @@
 -- Each round has every step of the base list, with some count above 0.
-use Rattle.std.proofs.Common.{◌≡◌, ℕ, zero, suc, ◌+◌, ◌-◌, ◌*◌, ◌%◌, ◌<◌, ◌≤◌, ◌⊎◌, inl, inr, List, [], ◌∷◌, length, map, Some, option_map, slice_get, refl, sym, ap, ◌∙◌, ⊎_elim, arith}
+use Rattle.std.proofs.Common.{◌≡◌, ℕ, zero, suc, ◌+◌, ◌-◌, ◌*◌, ◌%◌, ◌<◌, ◌≤◌, ◌⊎◌, inl, inr, List, [], ◌∷◌, length, map, Some, option_map, slice_get, refl, ap, ap₂, ◌∙◌, ⊎_elim, arith}
 use Rattle.std.proofs.lemmas.Bool.{cases_lt}
 use Rattle.std.proofs.lemmas.Option.{none-some, same_Some, slice_get-map, slice_get_within}
 use Rattle.process_network.specs.Rounds.{IsRound}
@@ -48,14 +48,19 @@ Delivers ss p way = (i : ℕ) × (k : ℕ) × (slice_get ss i ≡ Some (Deliver 
 delivers-behind : (s : Step) (ss : List Step) (p : ℕ) (way : Way) → Delivers ss p way → Delivers (s ∷ ss) p way
 delivers-behind s ss p way d = (suc d.0, d.1, d.2)
 
-counted-first : (x p q k l : ℕ) (way other : Way) → Some (Deliver q other l) ≡ Some (Deliver p way k) → Some (Deliver q other (1 + drawn x % 64)) ≡ Some (Deliver p way (suc (drawn x % 64)))
-counted-first x p q k l way other e = ?
+counted-first : (p q k l n : ℕ) (way other : Way) → Some (Deliver q other l) ≡ Some (Deliver p way k) → Some (Deliver q other (1 + n)) ≡ Some (Deliver p way (suc n))
+counted-first p q k l n way other e =
+    let same = same_Some (Deliver q other l) (Deliver p way k) e in
+    let port : q ≡ p = cc in
+    let ways : other ≡ way = cc in
+    let count : 1 + n ≡ suc n = omega arith in
+    ap Some (ap₂ (λ a w. Deliver a w (1 + n)) port ways ∙ ap (Deliver p way) count)
 
 counted-delivers : (x p k : ℕ) (way : Way) (ss : List Step) (i : ℕ) → slice_get ss i ≡ Some (Deliver p way k) → Delivers (counted x ss) p way
 counted-delivers x p k way [] i e = absurd (none-some (Deliver p way k) e)
 counted-delivers x p k way (Machine ∷ ss) zero e = absurd (cc)
 counted-delivers x p k way (Device q ∷ ss) zero e = absurd (cc)
-counted-delivers x p k way (Deliver q other l ∷ ss) zero e = (0, drawn x % 64, counted-first x p q k l way other e)
+counted-delivers x p k way (Deliver q other l ∷ ss) zero e = (0, drawn x % 64, counted-first p q k l (drawn x % 64) way other e)
 counted-delivers x p k way (Machine ∷ ss) (suc i) e = delivers-behind Machine (counted x ss) p way (counted-delivers x p k way ss i e)
 counted-delivers x p k way (Device q ∷ ss) (suc i) e = delivers-behind (Device q) (counted x ss) p way (counted-delivers x p k way ss i e)
 counted-delivers x p k way (Deliver q other l ∷ ss) (suc i) e = delivers-behind (Deliver q other (1 + drawn x % 64)) (counted (following x) ss) p way (counted-delivers (following x) p k way ss i e)
