@@ -1,11 +1,11 @@
 -- Courses of schedules.
-use Rattle.std.proofs.Common.{◌≡◌, ℕ, zero, suc, ◌+◌, ◌-◌, ◌*◌, ◌%◌, ◌<◌, ◌≤◌, List, [], ◌∷◌, ◌++◌, length, drop, Some, slice_get, refl, sym, ap, ap₂, ◌∙◌, length-drop, arith}
+use Rattle.std.proofs.Common.{◌≡◌, ℕ, zero, suc, ◌+◌, ◌-◌, ◌%◌, ◌<◌, ◌≤◌, List, [], ◌∷◌, length, drop, refl, ap, ap₂, ◌∙◌, length-drop, arith}
 use Rattle.std.proofs.lemmas.List.{append-nil}
 use Rattle.cos_schedules.specs.declared.step.Step.{Step}
 use Rattle.cos_schedules.specs.declared.step.Step.TheVariants.{Machine, Device, Deliver}
 use Rattle.cos_schedules.specs.Schedules.{base, base_length, turned, from_drawn_place, drawn, following, counted, round, after_round}
-use Rattle.cos_schedules.specs.Courses.{Course, fresh_course, begun_at, begun, counted_in, after_counts_in, course_of, first_place, after_place, IsCounted}
-use Rattle.cos_schedules.proofs.Places.{length-base, length-turned, left-at}
+use Rattle.cos_schedules.specs.Courses.{Course, begun_at, begun, counted_in, after_counts_in, course_of, first_place, after_place, IsCounted}
+use Rattle.cos_schedules.proofs.Places.{length-base, length-turned}
 
 length-counted : (x : ℕ) (ss : List Step) → length (counted x ss) ≡ length ss
 length-counted x [] = refl

@@ -1,9 +1,9 @@
 -- The steps that a schedule gives are its rounds.
-use Rattle.std.proofs.Common.{◌≡◌, ℕ, zero, suc, ◌+◌, ◌*◌, ◌≤◌, List, [], ◌∷◌, ◌++◌, length, refl, sym, ap, ◌∙◌, subst, append_assoc, arith}
+use Rattle.std.proofs.Common.{◌≡◌, ℕ, zero, suc, ◌+◌, ◌*◌, List, [], ◌∷◌, ◌++◌, length, refl, sym, ap, ◌∙◌, subst, append_assoc, arith}
 use Rattle.std.proofs.lemmas.List.{append-nil}
 use Rattle.cos_schedules.specs.declared.step.Step.{Step}
 use Rattle.cos_schedules.specs.Schedules.{base_length, round, after_round, x_at, first_rounds}
-use Rattle.cos_schedules.specs.Courses.{Course, fresh_course, begun_at, begun, Gives, GivesAll}
+use Rattle.cos_schedules.specs.Courses.{Course, fresh_course, begun_at, GivesAll}
 use Rattle.cos_schedules.proofs.Courses.{length-round}
 
 -- so many rounds, of which the first begins with x

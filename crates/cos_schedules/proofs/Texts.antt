@@ -1,5 +1,5 @@
 -- What a line that spells a step looks like, and that it spells one step only.
-use Rattle.std.proofs.Common.{◌≡◌, ℕ, ◌+◌, ◌^◌, ◌<◌, ◌≤◌, ◌==◌, Bool, true, false, cond, List, [], ◌∷◌, ◌++◌, length, get_or, drop, Option, Some, None, codes, decimal, refl, sym, ap, ap₂, ◌∙◌, arith}
+use Rattle.std.proofs.Common.{◌≡◌, ℕ, ◌^◌, ◌<◌, ◌≤◌, ◌==◌, Bool, true, false, cond, List, [], ◌∷◌, ◌++◌, length, get_or, drop, Some, decimal, refl, sym, ap, ap₂, ◌∙◌, arith}
 use Rattle.std.specs.Char.{digit_value}
 use Rattle.std.specs.Str.Parse.{AllDigits}
 use Rattle.std.proofs.lemmas.Bool.{ne_eqb, eqb-true}
@@ -10,7 +10,7 @@ use Rattle.cos_schedules.specs.declared.step.Step.{Step}
 use Rattle.cos_schedules.specs.declared.step.Step.TheVariants.{Machine, Device, Deliver}
 use Rattle.cos_schedules.specs.declared.step.Way.{Way}
 use Rattle.cos_schedules.specs.declared.step.Way.TheVariants.{Out, Back}
-use Rattle.cos_schedules.specs.Texts.{delivery_name, text_of, Fits, Spells, AllSpell}
+use Rattle.cos_schedules.specs.Texts.{delivery_name, Spells, AllSpell}
 
 -- Two words round a blank.
 

@@ -1,7 +1,6 @@
 -- A schedule under way.
-use Rattle.std.specs.Prelude.{◌≡◌, ℕ, zero, suc, ◌%◌, ◌+◌, List, [], ◌∷◌}
+use Rattle.std.specs.Prelude.{◌≡◌, ℕ, zero, suc, ◌%◌, List, [], ◌∷◌}
 use Rattle.cos_schedules.specs.declared.step.Step.{Step}
-use Rattle.cos_schedules.specs.declared.step.Step.TheVariants.{Machine, Device, Deliver}
 use Rattle.cos_schedules.specs.Schedules.{base_length, following, drawn, counted, after_counts, round, after_round}
 
 pub record Course : Type 0 where

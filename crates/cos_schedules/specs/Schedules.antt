@@ -2,7 +2,6 @@
 use Rattle.std.specs.Prelude.{ℕ, zero, suc, ◌+◌, ◌*◌, ◌/◌, ◌%◌, ◌^◌, List, [], ◌∷◌, ◌++◌, take, drop}
 use Rattle.cos_schedules.specs.declared.step.Step.{Step}
 use Rattle.cos_schedules.specs.declared.step.Step.TheVariants.{Machine, Device, Deliver}
-use Rattle.cos_schedules.specs.declared.step.Way.{Way}
 use Rattle.cos_schedules.specs.declared.step.Way.TheVariants.{Out, Back}
 
 -- Draws. The number x after a draw, and what is drawn.

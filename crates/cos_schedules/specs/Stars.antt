@@ -3,7 +3,6 @@ use Rattle.process_network.specs.Star.{StarStep}
 use Rattle.process_network.specs.Star.StarStep.{HubTurn, LeafTurn, DeliverOut, DeliverBack}
 use Rattle.cos_schedules.specs.declared.step.Step.{Step}
 use Rattle.cos_schedules.specs.declared.step.Step.TheVariants.{Machine, Device, Deliver}
-use Rattle.cos_schedules.specs.declared.step.Way.{Way}
 use Rattle.cos_schedules.specs.declared.step.Way.TheVariants.{Out, Back}
 
 abbrev pub star_step : Step → StarStep

@@ -85,7 +85,11 @@ fn counted(step: Step, draws: &mut Draws) -> Step
 fn counted_in(number: u32, step: Step, draws: &mut Draws) -> Step
     ensures { courses.IsCounted number step draws.old.x result draws.new.x }
 {
-    if number == 0 { step } else { counted(step, draws) }
+    if number == 0 {
+        step
+    } else {
+        counted(step, draws)
+    }
 }
 
 /// The steps of a schedule, one after another and without an end. Contracts see what is left of the round that was begun.
@@ -126,7 +130,9 @@ impl Rounds {
         Rounds {
             number,
             ports,
-            draws: Draws { x: u64::from(number) },
+            draws: Draws {
+                x: u64::from(number),
+            },
             first: 0,
             given: steps_in_round(ports),
         }

@@ -1,4 +1,4 @@
-use Rattle.std.proofs.Common.{◌∙◌, ◌+◌, ap, arith}
+use Rattle.std.proofs.Common.{◌∙◌, arith}
 use Rattle.cos_schedules.specs.Schedules.{base}
 use Rattle.cos_schedules.proofs.Places.{length-base, turned-front, turned-back}
 use Rattle.cos_schedules.proofs.rounds.turned_step.Goals as goal

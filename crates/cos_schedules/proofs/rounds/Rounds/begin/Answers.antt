@@ -1,4 +1,4 @@
-use Rattle.std.proofs.Common.{◌≡◌, ◌≤◌, ◌∙◌, sym, ap, ap₂, length, subst, arith}
+use Rattle.std.proofs.Common.{◌∙◌, sym, ap, ap₂, length, arith}
 use Rattle.cos_schedules.specs.Schedules.{base, turned}
 use Rattle.cos_schedules.specs.Courses.{begun, course_of}
 use Rattle.cos_schedules.proofs.Courses.{length-left, begun-same, round-ends, round-begins}

@@ -1,4 +1,4 @@
-use Rattle.std.proofs.Common.{◌≤◌, ap, length, sym, subst}
+use Rattle.std.proofs.Common.{◌≤◌, length, sym, subst}
 use Rattle.cos_schedules.proofs.Courses.{begun-left}
 use Rattle.cos_schedules.proofs.rounds.Rounds.next.Goals as goal
 

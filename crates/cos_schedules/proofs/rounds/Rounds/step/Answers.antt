@@ -1,5 +1,5 @@
-use Rattle.std.proofs.Common.{◌<◌, ◌+◌, ◌∙◌, sym, ap, drop, length, arith}
-use Rattle.cos_schedules.specs.Schedules.{base, base_length, turned}
+use Rattle.std.proofs.Common.{◌+◌, ◌∙◌, sym, ap, drop, length, arith}
+use Rattle.cos_schedules.specs.Schedules.{base, turned}
 use Rattle.cos_schedules.proofs.Courses.{length-left, step-given}
 use Rattle.cos_schedules.proofs.Places.{left-at}
 use Rattle.cos_schedules.proofs.rounds.Rounds.step.Goals as goal
