@@ -1,10 +1,13 @@
 -- Courses of schedules.
-use Rattle.std.proofs.Common.{◌≡◌, ℕ, zero, suc, ◌+◌, ◌-◌, ◌%◌, ◌<◌, ◌≤◌, List, [], ◌∷◌, length, drop, refl, ap, ap₂, ◌∙◌, length-drop, arith}
+use Rattle.std.proofs.Common.{◌≡◌, ℕ, zero, suc, ◌+◌, ◌%◌, ◌<◌, ◌≤◌, List, [], ◌∷◌, length, drop, refl, ap, ap₂}
+use Rattle.std.proofs.Common.{◌∙◌, length-drop, arith}
 use Rattle.std.proofs.lemmas.List.{append-nil}
 use Rattle.cos_schedules.specs.declared.step.Step.{Step}
 use Rattle.cos_schedules.specs.declared.step.Step.TheVariants.{Machine, Device, Deliver}
-use Rattle.cos_schedules.specs.Schedules.{base, base_length, turned, from_drawn_place, drawn, following, counted, round, after_round}
-use Rattle.cos_schedules.specs.Courses.{Course, begun_at, begun, counted_in, after_counts_in, course_of, first_place, after_place, IsCounted}
+use Rattle.cos_schedules.specs.Schedules.{base, base_length, turned, from_drawn_place, drawn, following, counted, round}
+use Rattle.cos_schedules.specs.Schedules.{after_round}
+use Rattle.cos_schedules.specs.Courses.{Course, begun_at, begun, counted_in, after_counts_in, course_of, first_place}
+use Rattle.cos_schedules.specs.Courses.{after_place, IsCounted}
 use Rattle.cos_schedules.proofs.Places.{length-base, length-turned}
 
 length-counted : (x : ℕ) (ss : List Step) → length (counted x ss) ≡ length ss
@@ -18,14 +21,28 @@ length-counted_in zero x ss = refl
 length-counted_in (suc number) x ss = length-counted x ss
 
 -- how many steps are left
-pub length-left : (number ports x first given : ℕ) → first < base_length ports → length (course_of number ports x (drop given (turned first (base ports)))).left + given ≡ base_length ports + (given - base_length ports)
-length-left number ports x first given inside =
-    omega (arith, length-counted_in number x (drop given (turned first (base ports))), length-drop given (turned first (base ports)), length-turned first (base ports) (omega (arith, length-base ports)), length-base ports)
+pub length-left : (number ports x first given : ℕ) (c : Course) → first < base_length ports
+    → given ≤ base_length ports → course_of number ports x (drop given (turned first (base ports))) ≡ c
+    → length c.left + given ≡ base_length ports
+length-left number ports x first given c inside within is =
+    omega (
+      arith,
+      ap (λ d. length d.left) is,
+      length-counted_in number x (drop given (turned first (base ports))),
+      length-drop given (turned first (base ports)),
+      length-turned first (base ports) (omega (arith, length-base ports)),
+      length-base ports,
+    )
 
 pub length-round : (number ports x : ℕ) → length (round number ports x) ≡ base_length ports
 length-round zero ports x = length-base ports
 length-round (suc number) ports x =
-    omega (arith, length-counted (following x) (from_drawn_place ports x), length-turned (drawn x % base_length ports) (base ports) (omega (arith, length-base ports)), length-base ports)
+    omega (
+      arith,
+      length-counted (following x) (from_drawn_place ports x),
+      length-turned (drawn x % base_length ports) (base ports) (omega (arith, length-base ports)),
+      length-base ports,
+    )
 
 pub begun-left : (c : Course) → 1 ≤ length (begun c).left
 begun-left c = by c.left refl
@@ -49,22 +66,31 @@ none-left [] (suc n) e = refl
 none-left (x ∷ xs) zero e = absurd (omega arith)
 none-left (x ∷ xs) (suc n) e = none-left xs n (omega arith)
 
-nothing : (number ports x : ℕ) → course_of number ports x [] ≡ record { number = number; ports = ports; left = []; x = x }
+abbrev course : ℕ → ℕ → List Step → ℕ → Course
+course number ports left x = record { number = number; ports = ports; left = left; x = x }
+
+nothing : (number ports x : ℕ) → course_of number ports x [] ≡ course number ports [] x
 nothing zero ports x = refl
 nothing (suc number) ports x = refl
 
-pub round-ends : (number ports x first given : ℕ) → first < base_length ports → given ≡ base_length ports → course_of number ports x (drop given (turned first (base ports))) ≡ record { number = number; ports = ports; left = []; x = x }
+pub round-ends : (number ports x first given : ℕ) → first < base_length ports → given ≡ base_length ports
+    → course_of number ports x (drop given (turned first (base ports))) ≡ course number ports [] x
 round-ends number ports x first given inside all =
-    ap (course_of number ports x) (none-left (turned first (base ports)) given (omega (arith, length-turned first (base ports) (omega (arith, length-base ports)), length-base ports)))
-    ∙ nothing number ports x
+    let whole = length-turned first (base ports) (omega (arith, length-base ports)) in
+    let none = none-left (turned first (base ports)) given (omega (arith, whole, length-base ports)) in
+    ap (course_of number ports x) none ∙ nothing number ports x
 
-pub round-begins : (number ports x : ℕ) → course_of number ports (after_place number x) (turned (first_place number ports x) (base ports)) ≡ record { number = number; ports = ports; left = round number ports x; x = after_round number ports x }
-round-begins zero ports x = ap (λ ss. record { number = 0; ports = ports; left = ss; x = x }) (append-nil (base ports))
+pub round-begins : (number ports x : ℕ)
+    → course_of number ports (after_place number x) (turned (first_place number ports x) (base ports))
+    ≡ course number ports (round number ports x) (after_round number ports x)
+round-begins zero ports x = ap (λ ss. course 0 ports ss x) (append-nil (base ports))
 round-begins (suc number) ports x = refl
 
 -- A step is given.
 
-pub step-given : (number ports x after : ℕ) (step counted : Step) (left rest : List Step) → left ≡ step ∷ rest → IsCounted number step x counted after → course_of number ports x left ≡ record { number = number; ports = ports; left = counted ∷ counted_in number after rest; x = after_counts_in number after rest }
+pub step-given : (number ports x after : ℕ) (step counted : Step) (left rest : List Step)
+    → left ≡ step ∷ rest → IsCounted number step x counted after
+    → course_of number ports x left
+    ≡ course number ports (counted ∷ counted_in number after rest) (after_counts_in number after rest)
 step-given number ports x after step counted left rest e is =
-    ap (course_of number ports x) e
-    ∙ ap₂ (λ ss y. record { number = number; ports = ports; left = ss; x = y }) (is rest).0 (is rest).1
+    ap (course_of number ports x) e ∙ ap₂ (λ ss y. course number ports ss y) (is rest).0 (is rest).1

@@ -1,4 +1,5 @@
-//! The order in which a world of ends is moved: lists of steps that a text spells, and schedules of rounds without an end.
+//! The order in which a world of ends is moved: lists of steps that a text spells, and schedules, which are rounds
+//! without an end.
 #![tactic(auto)]
 
 mod draws;

@@ -1,6 +1,6 @@
 // A schedule under way.
-ghost use Rattle.std.specs.Prelude.{◌≡◌, ◌+◌, ◌*◌, ◌<◌, ◌≤◌, ◌∷◌, Some, length, slice_get};
-ghost use Rattle.cos_schedules.specs.Schedules.{base, base_length, turned, following, drawn, counted, after_counts};
+ghost use Rattle.std.specs.Prelude.{◌≡◌, ◌<◌, Some, slice_get};
+ghost use Rattle.cos_schedules.specs.Schedules.{base, base_length, turned};
 ghost use Rattle.cos_schedules.specs.Courses as courses;
 
 use crate::{Draws, Step, Way};
@@ -92,7 +92,8 @@ fn counted_in(number: u32, step: Step, draws: &mut Draws) -> Step
     }
 }
 
-/// The steps of a schedule, one after another and without an end. Contracts see what is left of the round that was begun.
+/// The steps of a schedule, one after another and without an end. It takes no memory. Contracts see what is left of the
+/// round that was begun.
 #[derive(Drop)]
 pub struct Rounds {
     number: u32,
@@ -122,8 +123,9 @@ impl Rounds {
 
     /// The schedule of this number over so many ports, before its first step.
     ///
-    /// A round of schedule 0 is the machine, and then for each port a delivery of up to 65,556 bytes to the device, the device, and a
-    /// delivery back. Above 0 a round begins at a drawn place of that list, and the count of each delivery is drawn, 1 to 64.
+    /// A round of schedule 0 is the machine, and then for each port a delivery of up to 65,556 bytes to the device,
+    /// the device, and a delivery back. Above 0 a round begins at a drawn place of that list, and the count of each
+    /// delivery is drawn, 1 to 64.
     pub fn make(number: u32, ports: u32) -> Rounds
         ensures { result ≡ fresh_course number ports }
     {

@@ -64,9 +64,9 @@ fn add(steps: &mut Steps, line: &[u8], number: u64, ports: u32) -> Result<(), St
 
 /// The steps that a text spells, over so many ports.
 ///
-/// A line is `m` for the machine, `d PORT` for a device, `> PORT COUNT` for a delivery to the device, or `< PORT COUNT` for one back.
-/// The port is below the number of ports, and the count below 2^32. Numbers are decimal, without leading zeros. The last line may lack its
-/// line feed.
+/// A line is `m` for the machine, `d PORT` for a device, `> PORT COUNT` for a delivery to the device, or
+/// `< PORT COUNT` for one back. The port is below the number of ports, and the count below 2^32. Numbers are decimal,
+/// without leading zeros. The last line may lack its line feed.
 pub fn read_steps(alloc: Global, text: &[u8], ports: u32) -> Result<Steps, StepsFault>
     ensures { ReadsInto ports text.now result }
 {

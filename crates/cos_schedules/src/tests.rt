@@ -84,9 +84,9 @@ fn draws_follow_the_rule(rt: HostRuntime) -> Result<(), Fail> {
     Ok(())
 }
 
-// Schedule 0 is written from the rule. The rounds of the others are worked in Python from the rules of draws and turns: of
-// schedule 1 the first draw is 908,834,774, which modulo 4 is place 2, and the second is 1,093,944,153, which modulo 64 is
-// 25, so the first delivery has count 26.
+// Schedule 0 is written from the rule. The rounds of the others are worked in Python from the rules of draws and turns:
+// of schedule 1 the first draw is 908,834,774, which modulo 4 is place 2, and the second is 1,093,944,153, which modulo
+// 64 is 25, so the first delivery has count 26.
 #[test]
 fn schedules_begin_as_the_rules_say(rt: HostRuntime) -> Result<(), Fail> {
     for (number, ports, text) in [
