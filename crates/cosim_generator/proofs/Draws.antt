@@ -1,15 +1,14 @@
 -- Draws one after another, and what is made of them.
-use Rattle.std.proofs.Common.{◌≡◌, ℕ, zero, suc, ◌+◌, ◌*◌, ◌%◌, ◌<◌, List, [], ◌∷◌, ◌++◌, length, take, set, refl, sym, ap}
+use Rattle.std.proofs.Common.{◌≡◌, ℕ, zero, suc, ◌+◌, ◌*◌, ◌%◌, ◌<◌, List, [], ◌∷◌, ◌++◌, length, take, set, refl, sym}
+use Rattle.std.proofs.Common.{ap}
 use Rattle.std.proofs.Common.{ap₂, ◌∙◌, append_assoc, arith}
-use Rattle.std.specs.Int.{w32, to_le_bytes}
 use Rattle.std.proofs.Math.Seq.{take-suc-set}
 use Rattle.std.proofs.lemmas.Grind.{flat_map-append}
 use Rattle.std.proofs.lemmas.List.{append-nil}
 use Rattle.std.specs.List.{flat_map}
 use Rattle.rv_table.specs.declared.instr.Instr.{Instr}
-use Rattle.rv_table.specs.Coding.{encoded}
 use Rattle.cos_schedules.specs.Schedules.{following, drawn}
-use Rattle.cosim_generator.specs.Programs.{after, draw, drawn_bytes, drawn_blocks, block, image_of}
+use Rattle.cosim_generator.specs.Programs.{after, draw, drawn_bytes, drawn_blocks, block}
 
 pub after-none : (x : ℕ) → after 0 x ≡ x
 unfolding after
@@ -25,7 +24,8 @@ after-plus zero j n x e =
     after-none (after j x) ∙ ap (λ k. after k x) same
 after-plus (suc i) j zero x e = absurd (omega arith)
 after-plus (suc i) j (suc n) x e =
-    after-more i (suc i) (after j x) refl ∙ ap following (after-plus i j n x (omega arith)) ∙ sym (after-more n (suc n) x refl)
+    after-more i (suc i) (after j x) refl ∙ ap following (after-plus i j n x (omega arith))
+    ∙ sym (after-more n (suc n) x refl)
 
 bytes-none : (x : ℕ) → drawn_bytes 0 x ≡ []
 unfolding drawn_bytes
@@ -39,7 +39,8 @@ pub no-bytes : (x : ℕ) (bs : List ℕ) → take 0 bs ≡ drawn_bytes 0 x
 no-bytes x [] = sym (bytes-none x)
 no-bytes x (b ∷ bs) = sym (bytes-none x)
 
-blocks-next : (n m x : ℕ) → m ≡ suc n → drawn_blocks m x ≡ drawn_blocks n x ++ block (draw (2 * n) x) (draw (2 * n + 1) x) ∷ []
+blocks-next : (n m x : ℕ) → m ≡ suc n → drawn_blocks m x ≡ drawn_blocks n x ++ block (draw (2 * n) x)
+    (draw (2 * n + 1) x) ∷ []
 unfolding drawn_blocks
 blocks-next n m x e = ap (λ k. drawn_blocks k x) e
 

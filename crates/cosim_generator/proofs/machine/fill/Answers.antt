@@ -16,6 +16,7 @@ loop-byte-preserved c =
     let byte = c.below.ensures.drawn ∙ ap (λ y. drawn y % 256) l.invariant.drawn in
     let next = after-more l.byte-index (l.byte-index + 1) x (omega arith) in
     record {
-      filled = bytes-more l.byte-index (l.byte-index + 1) x c.below.result l.bytes (omega arith) (omega arith) l.invariant.filled byte;
+      filled = bytes-more l.byte-index (l.byte-index + 1) x c.below.result l.bytes (omega arith) (omega arith)
+          l.invariant.filled byte;
       drawn = c.below.ensures.x ∙ ap following l.invariant.drawn ∙ sym next;
     }

@@ -1,4 +1,4 @@
-use Rattle.std.proofs.Common.{◌+◌, ◌%◌, refl, sym, ap, ◌∙◌, arith}
+use Rattle.std.proofs.Common.{◌+◌, ◌%◌, refl, sym, ap, ◌∙◌}
 use Rattle.cos_schedules.specs.Schedules.{following, drawn}
 use Rattle.cosim_generator.specs.Programs.{after, drawn_bytes, program_after, image_of}
 use Rattle.cosim_generator.proofs.Draws.{after-none, after-more, after-plus, after-two}

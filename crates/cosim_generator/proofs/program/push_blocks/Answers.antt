@@ -1,4 +1,4 @@
-use Rattle.std.proofs.Common.{◌+◌, ◌*◌, ◌++◌, sym, ap, ◌∙◌, arith}
+use Rattle.std.proofs.Common.{◌+◌, ◌++◌, sym, ap, ◌∙◌, arith}
 use Rattle.std.specs.Int.{w32, to_le_bytes}
 use Rattle.rv_table.specs.Coding.{encoded}
 use Rattle.cos_schedules.specs.Schedules.{following, drawn}
@@ -28,7 +28,8 @@ loop-number-preserved c =
     let second = c.next-b.ensures.drawn ∙ ap drawn (c.next-a.ensures.x ∙ ap following at) in
     let blocks = blocks-more n (n + 1) x _ _ c.block.result (omega arith) c.block.ensures first second in
     record {
-      put = put-more (λ i. to_le_bytes w32 (encoded i)) (drawn_blocks n x) (drawn_blocks (n + 1) x) c.block.result front l.image.bytes c.push.new.image.bytes blocks l.invariant.put c.push.ensures.bytes;
+      put = put-more (λ i. to_le_bytes w32 (encoded i)) (drawn_blocks n x) (drawn_blocks (n + 1) x) c.block.result front
+          l.image.bytes c.push.new.image.bytes blocks l.invariant.put c.push.ensures.bytes;
       room = omega arith;
       drawn = c.next-b.ensures.x ∙ ap following c.next-a.ensures.x ∙ after-block n (n + 1) x l.draws.x (omega arith) at;
     }
