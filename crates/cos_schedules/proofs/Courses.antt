@@ -6,8 +6,8 @@ use Rattle.cos_schedules.specs.declared.step.Step.{Step}
 use Rattle.cos_schedules.specs.declared.step.Step.TheVariants.{Machine, Device, Deliver}
 use Rattle.cos_schedules.specs.Schedules.{base, base_length, turned, from_drawn_place, drawn, following, counted, round}
 use Rattle.cos_schedules.specs.Schedules.{after_round}
-use Rattle.cos_schedules.specs.Courses.{Course, begun_at, begun, counted_in, after_counts_in, course_of, first_place}
-use Rattle.cos_schedules.specs.Courses.{after_place, IsCounted}
+use Rattle.cos_schedules.specs.Courses.{Course, begun_at, begun}
+use Rattle.cos_schedules.specs.Held.{counted_in, after_counts_in, course_of, first_place, after_place, IsCounted}
 use Rattle.cos_schedules.proofs.Places.{length-base, length-turned}
 
 length-counted : (x : ℕ) (ss : List Step) → length (counted x ss) ≡ length ss

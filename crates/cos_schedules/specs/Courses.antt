@@ -1,7 +1,7 @@
 -- A schedule under way.
-use Rattle.std.specs.Prelude.{◌≡◌, ℕ, zero, suc, ◌%◌, List, [], ◌∷◌}
+use Rattle.std.specs.Prelude.{◌≡◌, ℕ, List, [], ◌∷◌}
 use Rattle.cos_schedules.specs.declared.step.Step.{Step}
-use Rattle.cos_schedules.specs.Schedules.{base_length, following, drawn, counted, after_counts, round, after_round}
+use Rattle.cos_schedules.specs.Schedules.{round, after_round}
 
 pub record Course : Type 0 where
   pub number : ℕ
@@ -33,38 +33,3 @@ Gives old step new = begun old ≡ record new { left = step ∷ new.left }
 abbrev pub GivesAll : Course → List Step → Course → Type 0
 GivesAll old [] new = old ≡ new
 GivesAll old (step ∷ steps) new = (mid : Course) × Gives old step mid × GivesAll mid steps new
-
--- The course that has these steps left, before their counts are drawn, and x as the number now.
-
-abbrev pub counted_in : ℕ → ℕ → List Step → List Step
-counted_in zero x steps = steps
-counted_in (suc number) x steps = counted x steps
-
-abbrev pub after_counts_in : ℕ → ℕ → List Step → ℕ
-after_counts_in zero x steps = x
-after_counts_in (suc number) x steps = after_counts x steps
-
-abbrev pub course_of : ℕ → ℕ → ℕ → List Step → Course
-course_of number ports x steps = record {
-  number = number;
-  ports = ports;
-  left = counted_in number x steps;
-  x = after_counts_in number x steps;
-}
-
--- The place of the base list at which a round begins, and the number x after that.
-
-abbrev pub first_place : ℕ → ℕ → ℕ → ℕ
-first_place zero ports x = 0
-first_place (suc number) ports x = drawn x % base_length ports
-
-abbrev pub after_place : ℕ → ℕ → ℕ
-after_place zero x = x
-after_place (suc number) x = following x
-
--- A step with its count, and the number x after that.
-abbrev pub IsCounted : ℕ → Step → ℕ → Step → ℕ → Type 0
-IsCounted number step x counted after =
-    (steps : List Step)
-    → (counted_in number x (step ∷ steps) ≡ counted ∷ counted_in number after steps)
-    × (after_counts_in number x (step ∷ steps) ≡ after_counts_in number after steps)

@@ -1,7 +1,7 @@
 // A schedule under way.
 ghost use Rattle.std.specs.Prelude.{◌≡◌, ◌<◌, Some, slice_get};
 ghost use Rattle.cos_schedules.specs.Schedules.{base, base_length, turned};
-ghost use Rattle.cos_schedules.specs.Courses as courses;
+ghost use Rattle.cos_schedules.specs.Held as held;
 
 use crate::{Draws, Step, Way};
 use std::marker::Model;
@@ -56,9 +56,9 @@ fn turned_step(ports: u32, first: u64, place: u64) -> Step
 
 /// The place at which a round begins.
 fn first_place(number: u32, ports: u32, draws: &mut Draws) -> u64
-    ensures first { result ≡ courses.first_place number ports draws.old.x }
+    ensures first { result ≡ held.first_place number ports draws.old.x }
     ensures within { result < base_length ports }
-    ensures x { draws.new.x ≡ courses.after_place number draws.old.x }
+    ensures x { draws.new.x ≡ held.after_place number draws.old.x }
 {
     if number == 0 {
         0
@@ -69,7 +69,7 @@ fn first_place(number: u32, ports: u32, draws: &mut Draws) -> u64
 
 /// The step with a drawn count, if it is a delivery.
 fn counted(step: Step, draws: &mut Draws) -> Step
-    ensures { courses.IsCounted 1 step draws.old.x result draws.new.x }
+    ensures { held.IsCounted 1 step draws.old.x result draws.new.x }
 {
     match step {
         Step::Deliver { port, way, .. } => Step::Deliver {
@@ -83,7 +83,7 @@ fn counted(step: Step, draws: &mut Draws) -> Step
 
 /// The step as the schedule of that number has it.
 fn counted_in(number: u32, step: Step, draws: &mut Draws) -> Step
-    ensures { courses.IsCounted number step draws.old.x result draws.new.x }
+    ensures { held.IsCounted number step draws.old.x result draws.new.x }
 {
     if number == 0 {
         step
@@ -108,7 +108,8 @@ pub struct Rounds {
 impl Model for Rounds {
     ghost use Rattle.std.specs.Prelude.{◌<◌, ◌≤◌, drop};
     ghost use Rattle.cos_schedules.specs.Schedules.{base, base_length, turned};
-    ghost use Rattle.cos_schedules.specs.Courses.{Course, course_of};
+    ghost use Rattle.cos_schedules.specs.Courses.{Course};
+    ghost use Rattle.cos_schedules.specs.Held.{course_of};
 
     ghost Value = { Course };
 

@@ -1,6 +1,7 @@
 use Rattle.std.proofs.Common.{◌∙◌, sym, ap, ap₂, arith}
 use Rattle.cos_schedules.specs.Schedules.{base, turned}
-use Rattle.cos_schedules.specs.Courses.{begun, course_of}
+use Rattle.cos_schedules.specs.Courses.{begun}
+use Rattle.cos_schedules.specs.Held.{course_of}
 use Rattle.cos_schedules.proofs.Courses.{length-left, begun-same, round-ends, round-begins}
 use Rattle.cos_schedules.proofs.rounds.Rounds.begin.Goals as goal
 
