@@ -58,10 +58,10 @@ class Kit:
         words += ["--antt-project", self.path("rattle", "logic", "antt-project.json"), "--logic-built", self.path("logic_built")]
         return [*words, "--links", f"{name}=", "--jobs", "1"]
 
-    def call(self, name, behind, *words):
-        return Ran(["nice", "-n", str(behind), *words], os.path.join(parts.CRATES, name))
+    def call(self, name, tool, *words):
+        return Ran([self.path("bin", tool), *words], os.path.join(parts.CRATES, name))
 
-    def prove(self, name, behind):
+    def prove(self, name):
         """Proves a library, and keeps its statements. What an earlier build proved of the same sources stands."""
         stamp, kept = parts.stamp(name, self.version), os.path.join(place(name), "stamp")
         if parts.text(kept) == stamp and os.path.exists(library(name)):
@@ -69,21 +69,21 @@ class Kit:
         shutil.rmtree(place(name), ignore_errors=True)
         os.makedirs(place(name))
         words = [*self.words(name, "src/lib.rt"), "--statements", "-o", library(name)]
-        ran = self.call(name, behind, self.path("bin", "rattle"), "build", *words)
-        if ran.is_well:
+        ran = self.call(name, "rattle", "build", *words)
+        if ran.is_well and parts.stamp(name, self.version) == stamp:
             with open(kept, "w", encoding="utf-8") as file:
                 file.write(stamp)
         return ran
 
-    def compile(self, name, behind):
+    def compile(self, name):
         """Proves, compiles and links a program."""
         os.makedirs(os.path.dirname(parts.BUILT), exist_ok=True)
         toolchain, made = ["--toolchain", self.path("toolchain")], f"{parts.BUILT}.o"
         words = [*self.words(name, "src/main.rt"), *toolchain, "--backend", "llvm", "-o", made]
-        ran = self.call(name, behind, self.path("bin", "rattle"), "build", *words)
+        ran = self.call(name, "rattle", "build", *words)
         if not ran.is_well:
             return ran
         libraries = [self.path("c", "libos_c.a"), self.path("c", "liblibc_c.a")]
-        linked = self.call(name, behind, self.path("bin", "rattle-link"), "--target", TARGET, *toolchain, "-o", parts.BUILT, made, *libraries)
+        linked = self.call(name, "rattle-link", "--target", TARGET, *toolchain, "-o", parts.BUILT, made, *libraries)
         linked.seconds += ran.seconds
         return linked
