@@ -1,6 +1,6 @@
 """The kit's compiler, called as `rt ci` calls it: a crate is proved over the statements of the crates below it, which are what it can
-cite of them. Their proofs, which `rt lib` keeps as well, would be loaded by each crate above, and take longer than many a crate's own.
-A crate is proved on one processor: more of them only gain where a crate is large, and then take half as much time again of each."""
+cite of them, and nothing of how it was proved is kept but its own statements. Over the proofs of those below, which `rt lib` keeps,
+each crate would load them all, and with work kept for a next check its jobs would each load them anew."""
 
 import os
 import shutil
@@ -44,7 +44,7 @@ class Kit:
     def path(self, *names):
         return os.path.join(self.folder, *names)
 
-    def words(self, name, root):
+    def words(self, name, root, jobs):
         """What a crate is built of."""
         crates = parts.all_crates()
         words = ["--crate-name", name, root]
@@ -56,30 +56,30 @@ class Kit:
         for lower in parts.below(name):
             words += ["-L", f"dependency={place(lower)}"] if lower != name else []
         words += ["--antt-project", self.path("rattle", "logic", "antt-project.json"), "--logic-built", self.path("logic_built")]
-        return [*words, "--links", f"{name}=", "--jobs", "1"]
+        return [*words, "--links", f"{name}=", "--jobs", str(jobs)]
 
     def call(self, name, tool, *words):
         return Ran([self.path("bin", tool), *words], os.path.join(parts.CRATES, name))
 
-    def prove(self, name):
+    def prove(self, name, jobs):
         """Proves a library, and keeps its statements. What an earlier build proved of the same sources stands."""
         stamp, kept = parts.stamp(name, self.version), os.path.join(place(name), "stamp")
         if parts.text(kept) == stamp and os.path.exists(library(name)):
             return None
         shutil.rmtree(place(name), ignore_errors=True)
         os.makedirs(place(name))
-        words = [*self.words(name, "src/lib.rt"), "--statements", "-o", library(name)]
+        words = [*self.words(name, "src/lib.rt", jobs), "--statements", "-o", library(name)]
         ran = self.call(name, "rattle", "build", *words)
         if ran.is_well and parts.stamp(name, self.version) == stamp:
             with open(kept, "w", encoding="utf-8") as file:
                 file.write(stamp)
         return ran
 
-    def compile(self, name):
+    def compile(self, name, jobs):
         """Proves, compiles and links a program."""
         os.makedirs(os.path.dirname(parts.BUILT), exist_ok=True)
         toolchain, made = ["--toolchain", self.path("toolchain")], f"{parts.BUILT}.o"
-        words = [*self.words(name, "src/main.rt"), *toolchain, "--backend", "llvm", "-o", made]
+        words = [*self.words(name, "src/main.rt", jobs), *toolchain, "--backend", "llvm", "-o", made]
         ran = self.call(name, "rattle", "build", *words)
         if not ran.is_well:
             return ran
