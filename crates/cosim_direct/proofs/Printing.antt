@@ -31,27 +31,29 @@ sent-lines calls ports outs are =
     sym (flat_map-map pair_line port_and_bytes outs) ∙ ap (λ l. flat_map pair_line l) are ∙ flat_map-map pair_line (port_and_sent calls) ports
 
 -- The run's text, by what is told at its end.
-pub run-printed : (r : Direct AnyMaster AnyDevice) (ports : List PortConfig) (calls : List Call) (master : AnyMaster) (after : ℕ)
-    (e : Ending) → calls ≡ r.calls → master ≡ r.master → after ≡ r.tick → IsEnding calls master after ports e
+pub run-printed : (r : Direct AnyMaster AnyDevice) (ports : List PortConfig) (calls : List Call) (master : AnyMaster)
+    (after : ℕ) (e : Ending) → calls ≡ r.calls → master ≡ r.master → after ≡ r.tick → IsEnding calls master after ports e
     → run_text calls e ≡ run_lines r ports
 run-printed r ports calls master after e called left ticked is =
     let outs : flat_map out_line e.outs ≡ flat_map (sent_line r.calls) (uarts_from 0 ports) =
-    sent-lines calls (uarts_from 0 ports) e.outs is.outs ∙ ap (λ l. flat_map (sent_line l) (uarts_from 0 ports)) called in
+    sent-lines calls (uarts_from 0 ports) e.outs is.outs
+    ∙ ap (λ l. flat_map (sent_line l) (uarts_from 0 ports)) called in
     let head : head_text e ≡ stop_line (any_stopped r.master) r.tick ++ hart_lines (any_closing r.master).hart
-        ++ state_lines (any_closing r.master).lines (sha256 (any_ram r.master)) =
+    ++ state_lines (any_closing r.master).lines (sha256 (any_ram r.master)) =
     ap (λ x. stop_line x e.ticks ++ hart_lines e.closing.hart ++ state_lines e.closing.lines e.ram) is.stop
     ∙ ap (λ x. stop_line (any_stopped master) x ++ hart_lines e.closing.hart ++ state_lines e.closing.lines e.ram) is.ticks
-    ∙ ap (λ (x : Closing). stop_line (any_stopped master) after ++ hart_lines x.hart ++ state_lines x.lines e.ram) is.closing
+    ∙ ap (λ (x : Closing). stop_line (any_stopped master) after ++ hart_lines x.hart ++ state_lines x.lines e.ram)
+    is.closing
     ∙ ap (λ x. stop_line (any_stopped master) after ++ hart_lines (any_closing master).hart
-        ++ state_lines (any_closing master).lines x) is.ram
+    ++ state_lines (any_closing master).lines x) is.ram
     ∙ ap (λ m. stop_line (any_stopped m) after ++ hart_lines (any_closing m).hart
-        ++ state_lines (any_closing m).lines (sha256 (any_ram m))) left
+    ++ state_lines (any_closing m).lines (sha256 (any_ram m))) left
     ∙ ap (λ x. stop_line (any_stopped r.master) x ++ hart_lines (any_closing r.master).hart
-        ++ state_lines (any_closing r.master).lines (sha256 (any_ram r.master))) ticked in
+    ++ state_lines (any_closing r.master).lines (sha256 (any_ram r.master))) ticked in
     ap (λ l. flat_map call_text l ++ closing_text e) called
     ∙ ap (λ l. flat_map call_text r.calls ++ (l ++ flat_map out_line e.outs)) head
-    ∙ ap (λ l. flat_map call_text r.calls ++ (stop_line (any_stopped r.master) r.tick ++ hart_lines (any_closing r.master).hart
-        ++ state_lines (any_closing r.master).lines (sha256 (any_ram r.master)) ++ l)) outs
+    ∙ ap (λ l. flat_map call_text r.calls ++ (stop_line (any_stopped r.master) r.tick
+    ++ hart_lines (any_closing r.master).hart ++ state_lines (any_closing r.master).lines (sha256 (any_ram r.master)) ++ l)) outs
 
 -- What holds of the calls and the end that a run is made of holds of the run.
 pub finished-of : (P : Calls → Ending → Type 0) (r : Result Finished NoMemory) (calls : Calls) (e : Ending)

@@ -10,7 +10,8 @@ use Rattle.transcript.specs.Sent.{AreSent}
 use Rattle.cosim_direct.specs.Texts.{uarts_from}
 
 -- How the master was left after so many ticks, and what the UARTs sent, by the calls.
-pub record IsEnding (calls : List Call) (master : AnyMaster) (after : ℕ) (ports : List PortConfig) (e : Ending) : Type 0 where
+pub record IsEnding (calls : List Call) (master : AnyMaster) (after : ℕ) (ports : List PortConfig)
+    (e : Ending) : Type 0 where
   pub stop : e.stop ≡ any_stopped master
   pub ticks : e.ticks ≡ after
   pub closing : e.closing ≡ any_closing master

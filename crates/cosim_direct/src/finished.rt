@@ -90,7 +90,8 @@ pub fn run(
     requires few { length ports.now ≤ 16 }
     requires fresh { IsFresh any_masters.any_model any_devices.any_model master devices.items }
     requires plan { IsPlan plan }
-    ensures text { IfOk result (λ f. run_text f.calls.calls f.end ≡ run_lines (model.direct any_masters.any_model any_devices.any_model plan master devices.items) ports.now) }
+    ensures text { IfOk result (λ f. run_text f.calls.calls f.end ≡ run_lines
+        (model.direct any_masters.any_model any_devices.any_model plan master devices.items) ports.now) }
     ensures lines { IfOk result (λ f. All HasLine f.calls.calls) }
     ensures empty { IfOk result (λ f. f.piece.bytes ≡ []) }
     ensures room { IfOk result (λ f. 512 ≤ f.piece.spare) }

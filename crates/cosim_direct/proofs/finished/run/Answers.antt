@@ -14,14 +14,15 @@ returns-in-Ok-clause-text c =
     let r = model.direct any_masters.any_model any_devices.any_model c.args.plan c.args.master c.args.devices.items in
     let gives = c.in_ok-direct.ensures in
     let ran = c.in_ok-direct.direct in
-    finished-of (λ calls end. run_text calls.calls end ≡ run_lines r c.args.ports.now) c.with_room.result ran.calls c.in-Ok.end
-    c.with_room.ensures.calls c.with_room.ensures.end
-    (run-printed r c.args.ports.now ran.calls.calls ran.master ran.ticks c.in-Ok.end gives.calls gives.master gives.ticks
-    c.in-Ok.ensures)
+    finished-of (λ calls end. run_text calls.calls end ≡ run_lines r c.args.ports.now) c.with_room.result ran.calls
+    c.in-Ok.end c.with_room.ensures.calls c.with_room.ensures.end
+    (run-printed r c.args.ports.now ran.calls.calls ran.master ran.ticks c.in-Ok.end
+    gives.calls gives.master gives.ticks c.in-Ok.ensures)
 
 pub returns-in-Ok-clause-lines : goal.returns-in-Ok-clause-lines
 returns-in-Ok-clause-lines c =
     finished-of (λ calls end. All HasLine calls.calls) c.with_room.result c.in_ok-direct.direct.calls c.in-Ok.end
     c.with_room.ensures.calls c.with_room.ensures.end
     (subst (λ l. All HasLine l) (sym c.in_ok-direct.ensures.calls)
-    (direct-listed any_masters.any_model any_devices.any_model c.args.plan any_devices.any_lawful c.args.master c.args.devices.items))
+    (direct-listed any_masters.any_model any_devices.any_model c.args.plan any_devices.any_lawful
+    c.args.master c.args.devices.items))
