@@ -58,7 +58,7 @@ module _ {M : Type 0} (k : MasterModel M) where
   awaits-same h x y p is same rests =
       ap (hub_turn_by (machine_alone k packet_codec) h y) is
       ∙ ap (λ b. hub_after_take (machine_alone k packet_codec) h p (packet_codec.first (drop (get_or h.taken p 0)
-          b))) (sym same)
+      b))) (sym same)
       ∙ sym (ap (hub_turn_by (machine_alone k packet_codec) h x) is) ∙ rests
 
   -- an end that rests over what was received rests over all that the links give for what it sent
@@ -71,7 +71,7 @@ module _ {M : Type 0} (k : MasterModel M) where
     where
       by : (p : ℕ) (e : EndFault PacketFault) → FailsSo k h x p e
           → IsAllRead said x sent (Err (turn_fault.Port (record { port = p; fault = e })))
-              → Rests k h (λ p. said p (sent p))
+          → Rests k h (λ p. said p (sent p))
       by p (fault.Ended n) ends all = awaits-same h x _ p ends.0 all rests
       by p (fault.Truncated a b) ends all = awaits-same h x _ p ends.0 all rests
       by p (fault.Malformed f) ends all = halts h _ (looks-halted k h.core _ ends.0)
@@ -97,7 +97,7 @@ module _ {M : Type 0} (k : MasterModel M) where
       by p (fault.Malformed f) ends = (
         ends.0,
         subst (λ b. IsPlaced b (Some (fault.Malformed f))) (below p).1
-        (placed-longer (x p) (below p).0 (fault.Malformed f) ends.1),
+            (placed-longer (x p) (below p).0 (fault.Malformed f) ends.1),
       )
       by p (fault.Session f) ends = ends
       by p (fault.LateWant at got) ends = ends
@@ -122,7 +122,7 @@ module _ {M : Type 0} (k : MasterModel M) (plan : Plan) (m : M) where
       → ((p : ℕ) (w : Wire) → slice_get ns p ≡ Some w → IsWire w) → Below (received_on ns) (λ p. said p (sent_on ns p))
   within-said ns said same wires p =
       subst (λ (f : List ℕ → List ℕ). IsPrefix (received_on ns p) (f (sent_on ns p))) (same p) (by (slice_get ns p)
-          refl)
+      refl)
     where
       by : (o : Option Wire) → slice_get ns p ≡ o → IsPrefix (received_of o) (said_of o (sent_of o))
       by None is = IsPrefix-same []
@@ -162,7 +162,7 @@ module _ {M : Type 0} (k : MasterModel M) (plan : Plan) (m : M) where
       let within = within-said ns said is.same wires in
       let rests = rests-given k h x sent said r is.whole.rests is.ends is.all in
       let settled = settles k plan (length ns) m said telling x is.whole.turns h sent is.whole.run within rests
-          is.in_time in
+      is.in_time in
       let longer : (p : ℕ) → said p (sent p) ≡ settled.given p = λ p. sym (settled.fixed p) in
       record {
         rounds = settled.rounds;
@@ -195,10 +195,15 @@ module _ {M : Type 0} (k : MasterModel M) (plan : Plan) (m : M) where
           (subst (λ n. IsDriven k (machine_start Cause m n plan) said e r ns) size is))
 
       faults : (p : ℕ) (x : EndFault PacketFault)
-          → Leaves k (machine_start Cause m (length now) plan) said e (Err (turn_fault.Port (record { port = p; fault
-              = x }))) now
+          → Leaves k (machine_start Cause m (length now) plan) said e (Err (turn_fault.Port (record {
+            port = p;
+            fault
+                = x;
+          }))) now
           → ByTalk k (machine_start Cause m (length now) plan) (length now) said e (Err (turn_fault.Port (record {
-              port = p; fault = x })))
+            port = p;
+            fault = x;
+          })))
       faults p (fault.Link n) left = tt
       faults p (fault.Ended n) left = told _ left
       faults p (fault.Truncated a b) left = told _ left

@@ -78,7 +78,7 @@ module _ {M : Type 0} (k : MasterModel M) (start : MachineEnd M Cause) (said : S
   -- Nothing is sent or received: what was sent is a beginning of what a run sends.
   part-at : (e : End M) (ns : List Wire) (sent : Streams) → ((p : ℕ) → IsPrefix (sent_on ns p) (sent p))
       → (now : List (Option Wire)) → AllTell now ns → (p : ℕ) (o : Option (Option Wire)) → slice_get now p ≡ o
-          → (n : Wire)
+      → (n : Wire)
       → o ≡ Some (Some n) → (n.received ≡ received_on ns p) × IsPrefix n.sent (sent p)
   part-at e ns sent less now tell p o there n is =
       let at = tell-at now ns p (Some n) tell (there ∙ is) in
@@ -138,7 +138,7 @@ module _ {M : Type 0} (k : MasterModel M) (start : MachineEnd M Cause) (said : S
 
   pub going-sent : (e new : End M) (p : ℕ) (before out bytes : List ℕ) (now after : List (Option Wire)) → p < length now
       → GoesOn k e new before out (Ok (turn.Sent p)) → bytes ≡ drop (length before) out
-          → SendsOn now after p bytes (Ok tt)
+      → SendsOn now after p bytes (Ok tt)
       → Going k start said e now → Going k start said new after
   going-sent e new p before out bytes now after within goes is sends (ns, tell, g) =
       let size = tell-size now ns tell in
@@ -151,7 +151,7 @@ module _ {M : Type 0} (k : MasterModel M) (start : MachineEnd M Cause) (said : S
   -- a part of what a turn sends was sent
   pub going-part : (e new : End M) (p : ℕ) (before out bytes : List ℕ) (now after : List (Option Wire)) (f : TurnFault)
       → GoesOn k e new before out (Ok (turn.Sent p)) → bytes ≡ drop (length before) out
-          → SendsOn now after p bytes (Err f)
+      → SendsOn now after p bytes (Err f)
       → Going k start said e now → IsPartly k start after
   going-part e new p before out bytes now after f goes is sends (ns, tell, g) =
       let later : Streams = λ q. sent_on ns q ++ only_at p bytes q in
@@ -209,13 +209,13 @@ module _ {M : Type 0} (k : MasterModel M) (start : MachineEnd M Cause) (said : S
 
   pub faulted : (e : End M) (p : ℕ) (x : EndFault PacketFault) (taken : ℕ) (held : List ℕ) (now : List (Option Wire))
       → e.kept ≡ Some (record { port = p; fault = x }) → IsBlamedAt taken held x → IsAtRest k e
-          → Going k start said e now
+      → Going k start said e now
       → Leaves k start said e.clear (Err (turn_fault.Port (record { port = p; fault = x }))) now
   faulted e p (fault.Malformed f) taken held now kept blamed rests (ns, tell, g) = (
     ns,
     tell,
     driven-by e _ ns g rests
-    (fault-of e _ g.run.hub kept g.run.core, subst (IsPlacedAt (received_on ns)) kept g.run.placed) tt,
+        (fault-of e _ g.run.hub kept g.run.core, subst (IsPlacedAt (received_on ns)) kept g.run.placed) tt,
   )
   faulted e p (fault.Session f) taken held now kept blamed rests (ns, tell, g) =
       (ns, tell, driven-by e _ ns g rests (fault-of e _ g.run.hub kept g.run.core) tt)
@@ -267,7 +267,7 @@ module _ {M : Type 0} (k : MasterModel M) (start : MachineEnd M Cause) (said : S
   pub turn-sent : (e new : End M) (before out bytes : List ℕ) (now after : List (Option Wire)) (t : Turn) (p : ℕ)
       → port_of t ≡ Some p
       → length now ≡ length e.ports → IsAtFront e (Ok t) → GoesOn k e new before out (Ok t)
-          → bytes ≡ drop (length before) out
+      → bytes ≡ drop (length before) out
       → SendsOn now after p bytes (Ok tt) → Going k start said e now → Going k start said new after
   turn-sent e new before out bytes now after t p port size front goes is sends going =
       let there : p < length e.ports = subst (λ t. IsAtFront e (Ok t)) (sent-is t p port) front in
@@ -298,8 +298,10 @@ module _ {M : Type 0} (k : MasterModel M) (start : MachineEnd M Cause) (said : S
   -- the stream of an awaited port ended
   pub finished : (e : End M) (p : ℕ) (x : EndFault PacketFault) (now : List (Option Wire)) → p < length e.ports
       → machine_outlook k (core_of e) ≡ HubWaits p → e.kept ≡ None → IsAtRest k e → FinishesBy e p x
-      → Tells now (IsAtEnd k start said p e) → Leaves k start said e.clear (Err (turn_fault.Port (record { port = p;
-          fault = x }))) now
+      → Tells now (IsAtEnd k start said p e) → Leaves k start said e.clear (Err (turn_fault.Port (record {
+        port = p;
+        fault = x;
+      }))) now
   finished e p (fault.Ended n) now there waits kept rests finishes (ns, tell, at) =
       let run = at.going.run in
       let within : p < length ns = subst (λ n. p < n) run.size there in (
@@ -372,7 +374,7 @@ module _ {M : Type 0} (k : MasterModel M) (start : MachineEnd M Cause) (said : S
             (λ q o. (n : Wire) → o ≡ Some (Some n) → (n.received ≡ part.received q) × IsPrefix n.sent (part.sent q))
             now p after was there
             (λ n is. part.links p n (there ∙ ap (λ w. Some w) (at.1
-                ∙ partly at.0 n after came_as (same_Some after (Some n) is))))
+            ∙ partly at.0 n after came_as (same_Some after (Some n) is))))
             (λ q n is. part.links q n is) q n is;
       }
     where
@@ -393,17 +395,17 @@ module _ {M : Type 0} (k : MasterModel M) (plan : Plan) (m : M) (n : ℕ) (said 
       let came = record w { received = w.received ++ piece } in
       let run_n = subst (λ i. IsRun k start i x turns h sent) (sym size) run in
       let mine = subst (λ i. IsRun k start i (received_on ns) g.run.turns g.run.hub (sent_on ns)) (sym size)
-          g.run.run in
+      g.run.run in
       let in_time = g.in_time x turns h sent run rests fixed in
       let less = sends-less k plan n m (received_on ns) x g.run.turns turns g.run.hub h (sent_on ns) sent in_time
-          mine run_n rests in
+      mine run_n rests in
       let says : w.said w.sent ≡ said p (sent_on ns p) =
       ap w.said (sent-at ns p w there) ∙ ap (λ (f : List ℕ → List ℕ). f (sent_on ns p)) (said-at ns p w there
-          ∙ g.same p) in
+      ∙ g.same p) in
       let here : IsPrefix came.received (x p) =
       subst (IsPrefix came.received) (sym (fixed p))
       (IsPrefix-trans came.received (said p (sent_on ns p)) (said p (sent p)) (subst (IsPrefix came.received) says
-          wire.within)
+      wire.within)
       (g.telling p (sent_on ns p) (sent p) (less p))) in
       all-set (λ q o. IsPrefix (received_of o) (x q)) ns p came w there here in_time
 
@@ -431,7 +433,7 @@ module _ {M : Type 0} (k : MasterModel M) (plan : Plan) (m : M) (n : ℕ) (said 
               size)
               (λ q. refl)
               (read-in-time ns p w piece e (count ∙ tell-size now ns tell) here (subst (λ o. IfSome o IsWire) is
-                  wire) g);
+              wire) g);
         },
       )
 
@@ -449,7 +451,7 @@ module _ {M : Type 0} (k : MasterModel M) (plan : Plan) (m : M) (n : ℕ) (said 
 
   pub read-fails : (e new : End M) (p : ℕ) (was after : Option Wire) (now : List (Option Wire)) (x : ReceiveFault)
       → slice_get now p ≡ Some was → Pulls was after p e new (Err x) → Going k start said e now
-          → IsPartly k start (set now p after)
+      → IsPartly k start (set now p after)
   read-fails e new p was after now (receive.Link count) there pulls going =
       going-partly k start said e p was after now there pulls.0 going
   read-fails e new p was after now receive.NoMemory there pulls going =
@@ -462,15 +464,15 @@ module _ {M : Type 0} (k : MasterModel M) (plan : Plan) (m : M) (n : ℕ) (said 
 module _ {M X : Type 0} (k : MasterModel M) (plan : Plan) (m : M) (said : Said) (told : X
     → Option Wire) (ls : List X) (p : ℕ) (d l : X)
     (within : p < length ls) (e new : End M) (going : Going k (machine_start Cause m (length ls) plan) said e (map
-        told ls)) where
+    told ls)) where
   pub link-reads : (r : Pulled) → IfSome (told l) IsWire → e.kept ≡ None
       → Pulls (told (get_or ls p d)) (told l) p e new (Ok r)
       → ReadsOn k (machine_start Cause m (length ls) plan) said p new (map told (set ls p l)) (Ok r)
   link-reads r wire none pulls =
       subst (λ now. ReadsOn k (machine_start Cause m (length ls) plan) said p new now (Ok r)) (sym (told-set told ls
-          p d l within))
+      p d l within))
       (read-goes k plan m (length ls) said e new p (told (get_or ls p d)) (told l) (map told ls) r (sym (length-map
-          ls told))
+      ls told))
       (told-there told ls p d l within) wire none pulls going)
 
   pub link-fails : (x : ReceiveFault) → Pulls (told (get_or ls p d)) (told l) p e new (Err x)
@@ -478,5 +480,5 @@ module _ {M X : Type 0} (k : MasterModel M) (plan : Plan) (m : M) (said : Said) 
   link-fails x pulls =
       subst (IsPartly k (machine_start Cause m (length ls) plan)) (sym (told-set told ls p d l within))
       (read-fails k plan m (length ls) said e new p (told (get_or ls p d)) (told l) (map told ls) x (told-there told
-          ls p d l within)
+      ls p d l within)
       pulls going)

@@ -64,18 +64,18 @@ module _ {M : Type 0} (k : MasterModel M) (plan : Plan) (n : ℕ) where
   took-holds : (s : Taking M) (r : Taking M × Option (ℕ × List ℕ)) (p : ℕ) (o : Option (Decoded Cause × ℕ))
       → Holds s.core
       → machine_outlook k s.core ≡ HubWaits p → hub_after_take (machine_alone k packet_codec) s p o ≡ Some r
-          → Holds r.0.core
+      → Holds r.0.core
   took-holds s r p None holds is t = absurd (none-some r t)
   took-holds s r p (Some m) holds is t =
       subst (λ (v : Taking M × Option (ℕ × List ℕ)). Holds v.0.core) (same_Some _ r t) (takes-on s.core holds p is
-          m.0).0
+      m.0).0
 
   turn-holds : (x : Streams) (s : Taking M) (r : Taking M × Option (ℕ × List ℕ)) (v : HubOutlook H (Decoded Cause))
       → Holds s.core
       → machine_outlook k s.core ≡ v → hub_turn_by (machine_alone k packet_codec) s x v ≡ Some r → Holds r.0.core
   turn-holds x s r (HubActs next sends) holds is t =
       subst (λ (v : Taking M × Option (ℕ × List ℕ)). Holds v.0.core) (same_Some _ r t) (acts-on s.core holds next
-          sends is).0
+      sends is).0
   turn-holds x s r (HubWaits p) holds is t = took-holds s r p _ holds is t
   turn-holds x s r HubHalts holds is t = absurd (none-some r t)
 

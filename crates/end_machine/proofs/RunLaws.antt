@@ -72,7 +72,7 @@ module _ {M : Type 0} (k : MasterModel M) (plan : Plan) (m : M) (n : ℕ) where
       → Going k start said e now → Settles {A = A} k start said new after r
   step-goes {A} i said e new now after r size goes =
       subst (λ i. Going k (machine_start Cause m i plan) said e now
-          → Settles {A = A} k (machine_start Cause m i plan) said new after r)
+      → Settles {A = A} k (machine_start Cause m i plan) said new after r)
       size (goes m plan said)
 
   pub read-on-goes : (i p : ℕ) (said : Said) (e new : End M) (now after : List (Option Wire)) (r : Result Pulled
@@ -82,7 +82,7 @@ module _ {M : Type 0} (k : MasterModel M) (plan : Plan) (m : M) (n : ℕ) where
       → Going k start said e now → ReadsOn k start said p new after r
   read-on-goes i p said e new now after r size goes =
       subst (λ i. Going k (machine_start Cause m i plan) said e now
-          → ReadsOn k (machine_start Cause m i plan) said p new after r)
+      → ReadsOn k (machine_start Cause m i plan) said p new after r)
       size (goes m plan said)
 
   -- A fresh end on fresh links.
@@ -106,10 +106,10 @@ module _ {M : Type 0} (k : MasterModel M) (plan : Plan) (m : M) (n : ℕ) where
   pub going-fresh : (e : End M) (now : List (Option Wire)) (ws : List Wire) → e ≡ fresh start n → n ≡ length now
       → ((p : ℕ) (w : Wire) → slice_get now p ≡ Some (Some w) → IsFresh w)
       → ((p : ℕ) (w : Wire) → slice_get now p ≡ Some (Some w) → IsWire w) → AllTell now ws
-          → Going k start (said_on ws) e now
+      → Going k start (said_on ws) e now
   going-fresh e now ws is size unused wires tell =
       let fresh_at = λ (p : ℕ) (w : Wire) (here : slice_get ws p ≡ Some w). unused p w (tell-some now ws p w tell
-          here) in
+      here) in
       let count : n ≡ length ws = size ∙ tell-size now ws tell in
       let nil : Streams = λ p. [] in
       let run = subst (λ (e : End M). HasRun k start n nil nil e) (sym is) (run-fresh k start n refl) in (
@@ -156,15 +156,14 @@ module _ {M : Type 0} (k : MasterModel M) (plan : Plan) (m : M) (n : ℕ) where
       let mid_holds = subst (λ (e : End M). Holds k plan n (core_of e)) (sym waits.1) holds in
       let there = step-there p old mid t is turned holds in
       let came = subst (λ r. Fed p mid new (Ok r)) more fed in
-      let less = read-less k plan n p mid new came.0 (omega (arith, there, size)) waits.0 came.1 came.2 in
-      (
+      let less = read-less k plan n p mid new came.0 (omega (arith, there, size)) waits.0 came.1 came.2 in (
         subst (Holds k plan n) (sym less.0) mid_holds,
         subst (λ (e : End M). remaining k plan n new < remaining k plan n e) waits.1 less.1,
       )
 
   pub ends-leaves : (said : Said) (p : ℕ) (old mid new : End M) (t : Turn) (r : Pulled) (x : EndFault PacketFault)
       (now : List (Option Wire)) → r ≡ pulled.End → need_of t ≡ need.Bytes p → Turned k old mid t
-          → Holds k plan n (core_of old)
+      → Holds k plan n (core_of old)
       → length mid.ports ≡ n → mid.kept ≡ None → SendsAll k (Ok t) mid → Fed p mid new (Ok r) → FinishesBy new p x
       → ReadsOn k start said p new now (Ok r)
       → Leaves k start said new.clear (Err (turn_fault.Port (record { port = p; fault = x }))) now
@@ -178,4 +177,4 @@ module _ {M : Type 0} (k : MasterModel M) (plan : Plan) (m : M) (n : ℕ) where
       let here : length new.ports ≡ n = ap (λ (e : End M). length e.ports) same ∙ size in
       finished k start said new p x now (omega (arith, there, here))
       (waits-outlook k p new (subst (IsWaiting k p) (sym same) waits.0)) (ap (λ (e : End M). e.kept) same
-          ∙ kept) back finishes at
+      ∙ kept) back finishes at

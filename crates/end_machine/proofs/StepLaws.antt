@@ -213,7 +213,7 @@ module _ {M : Type 0} (k : MasterModel M) where
   done-same old new before after f call =
       let rests = answers-done k (core_of old) _ (machine_acts k (core_of old)) call.answers in
       same-by old new before after (turn_of k old) (ap (λ (a : Act M Cause). turn-by old (outlook_of a)) rests)
-          call.goes
+      call.goes
 
   waits-held : (p : ℕ) (e : End M) (o : Option (Decoded Cause × ℕ)) → first (held_at e p) ≡ o
       → take_answer k (core_of e) p (option_map (λ r. r.0) o) ≡ Ok (turn.NotYet p) → o ≡ None
@@ -229,7 +229,7 @@ module _ {M : Type 0} (k : MasterModel M) where
   waits-none p e waits =
       let acts = turned-waits p e waits in
       let answers = ap (answer_by k (core_of e) (λ p. option_map (λ r. r.0) (first (held_at e p)))) (sym acts)
-          ∙ waits in
+      ∙ waits in
       waits-held p e (first (held_at e p)) refl (same_Some _ _ answers)
 
   pub waits-same : (p : ℕ) (old new : End M) (before after : List ℕ) (f : Option PortFault)
@@ -240,7 +240,7 @@ module _ {M : Type 0} (k : MasterModel M) where
       same-by old new before after (turn_of k old)
       (ap (turn-by old) (waits-outlook p old call.answers)
       ∙ ap (λ i. hub_after_take (machine_alone k packet_codec) (fresh_hub (core_of old) n) p (first (drop i (held_at
-          old p)))) (zeros n p)
+      old p)))) (zeros n p)
       ∙ ap (hub_after_take (machine_alone k packet_codec) (fresh_hub (core_of old) n) p) none) call.goes
 
   module _ (plan : Plan) (n : ℕ) where
@@ -253,13 +253,13 @@ module _ {M : Type 0} (k : MasterModel M) where
         → Holds k plan n next × (left k plan n next < left k plan n (core_of old)) → Less old new
     less-as old new next is less =
         subst (λ (h : MachineEnd M Cause). Holds k plan n h × (left k plan n h < left k plan n (core_of old))) (sym
-            is) less
+        is) less
 
     took-less : (old new : End M) (p : ℕ) (t : Turn) (before after : List ℕ) (o : Option (Decoded Cause × ℕ)) → Moves t
         → Holds k plan n (core_of old) → machine_outlook k (core_of old) ≡ HubWaits p
         → take_answer k (core_of old) p (option_map (λ r. r.0) o) ≡ Ok t
         → Goes (hub_after_take (machine_alone k packet_codec) (fresh_hub (core_of old) (length old.ports)) p o) old
-            new before after
+        new before after
         → Less old new
     took-less old new p t before after None moves holds waits answers goes =
         let is : turn.NotYet p ≡ t = cc (answers) in absurd (subst Moves (sym is) moves)
@@ -273,22 +273,22 @@ module _ {M : Type 0} (k : MasterModel M) where
         → Goes (turn-by old (outlook_of a)) old new before after → Less old new
     acted-less old new t before after (Works next) moves holds is answers goes =
         less-as old new next goes.0 (acts-on k plan n (core_of old) holds next _ (ap (λ (a : Act M Cause). outlook_of
-            a) is))
+        a) is))
     acted-less old new t before after (Sends p x next) moves holds is answers goes =
         less-as old new next goes.0 (acts-on k plan n (core_of old) holds next _ (ap (λ (a : Act M Cause). outlook_of
-            a) is))
+        a) is))
     acted-less old new t before after (Awaits p) moves holds is answers goes =
         took-less old new p t before after (first (held_at old p)) moves holds (ap (λ (a : Act M Cause). outlook_of
-            a) is)
+        a) is)
         (same_Some _ _ answers)
         (subst (λ i. Goes (hub_after_take (machine_alone k packet_codec) (fresh_hub (core_of old) (length old.ports)) p
         (first (drop i (held_at old p)))) old new before after) (zeros (length old.ports) p) goes)
     acted-less old new t before after (Serves p next) moves holds is answers goes =
         less-as old new next goes.0 (acts-on k plan n (core_of old) holds next _ (ap (λ (a : Act M Cause). outlook_of
-            a) is))
+        a) is))
     acted-less old new t before after (Marks next) moves holds is answers goes =
         less-as old new next goes.0 (acts-on k plan n (core_of old) holds next _ (ap (λ (a : Act M Cause). outlook_of
-            a) is))
+        a) is))
     acted-less old new t before after Rests moves holds is answers goes =
         let done : turn.Done ≡ t = cc (answers) in absurd (subst Moves (sym done) moves)
     acted-less old new t before after (Fails p f) moves holds is answers goes = absurd (cc (answers))
@@ -342,16 +342,18 @@ module _ {M : Type 0} (k : MasterModel M) where
     read-less p old new piece within waits some is =
         let core = ap (λ (e : End M). core_of e) is ∙ fed-core p piece old in
         let acts = ap (λ h. awaited (machine_acts k h)) core
-            ∙ ap (λ (a : Act M Cause). awaited a) (turned-waits p old waits) in
+        ∙ ap (λ (a : Act M Cause). awaited a) (turned-waits p old waits) in
         let now : waiting_bytes k new ≡ length (held_at old p) + length piece =
         ap (waiting_at new) acts ∙ ap (λ (e : End M). length (held_at e p)) is ∙ fed-held p piece old within in
         let was : waiting_bytes k old ≡ length (held_at old p) =
         ap (waiting_at old) (ap (λ (a : Act M Cause). awaited a) (turned-waits p old waits)) in
         let few = first-few (held_at old p) (waits-none p old waits) in
-        let same = ap (left k plan n) core in
-        (core, byte-less (left k plan n (core_of new)) (left k plan n (core_of old)) (waiting_bytes k new)
-            (waiting_bytes k old)
-        (length (held_at old p)) (length piece) same now was few some)
+        let same = ap (left k plan n) core in (
+          core,
+          byte-less (left k plan n (core_of new)) (left k plan n (core_of old)) (waiting_bytes k new)
+              (waiting_bytes k old)
+              (length (held_at old p)) (length piece) same now was few some,
+        )
       where
         byte-less : (a b c d held size : ℕ) → a ≡ b → c ≡ held + size → d ≡ held → held < 65556 → 1 ≤ size
             → a * 65557 + (65556 - c) < b * 65557 + (65556 - d)

@@ -65,7 +65,7 @@ module _ {M : Type 0} (k : MasterModel M) (plan : Plan) (n : ℕ) (m : M) where
   run-longer x y turns h sent below run =
       alone_run alone n (fresh_hub start n) y turns h sent
       (runs_more (hub_alone alone n (fresh_hub start n)) (alone-steady alone n (fresh_hub start n) (steady k)) 0 x y
-          below turns h sent
+      below turns h sent
       (run_alone alone n (fresh_hub start n) x turns h sent run))
 
   -- a run sends no more than one over more bytes that no turn is left to
@@ -73,7 +73,7 @@ module _ {M : Type 0} (k : MasterModel M) (plan : Plan) (n : ℕ) (m : M) where
       → IsRun k start n x turns h sent → IsRun k start n y more g all → Rests k g y → Below sent all
   sends-less x y turns more h g sent all below run whole rests =
       (run_below (hub_alone alone n (fresh_hub start n)) (alone-steady alone n (fresh_hub start n) (steady k)) 0 x y
-          below turns more h g
+      below turns more h g
       sent all (run_alone alone n (fresh_hub start n) x turns h sent run)
       (run_alone alone n (fresh_hub start n) y more g all whole) (ap (by_port n) rests)).1
 
@@ -109,10 +109,10 @@ module _ {M : Type 0} (k : MasterModel M) (plan : Plan) (n : ℕ) (m : M) where
 
     pub settles : (x : Streams) (turns : ℕ) (h : Taking M) (sent : Streams) → IsRun k start n x turns h sent
         → Below x (λ p. said p (sent p)) → Rests k h (λ p. said p (sent p)) → IsInTime k start n said x
-            → Settled turns h sent
+        → Settled turns h sent
     settles x turns h sent run within rests in_time =
         let ends = packet_talk_ends (machine_alone k packet_codec) n start (steady k) (work-bounded k plan n m) said
-            telling in
+        telling in
         let given = ends.1 in
         let first = ends.5 in
         let longer = run-longer x (λ p. said p (sent p)) turns h sent within run in

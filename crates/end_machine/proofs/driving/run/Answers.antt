@@ -31,9 +31,9 @@ turns-init g c = record {
 }
 
 pub turns-smaller-in-Turn : goal.turns-smaller-in-Turn
-turns-smaller-in-Turn g c = 
+turns-smaller-in-Turn g c =
     (step-moves g.M.Master.model c.args.end.now.clear.plan (length c.args.links.now) c.turns.end c.step.new.end
-        c.in-Ok.turn (sym c.need_after.ensures ∙ c.in-Turn.is) c.in-Ok.ensures.turned c.turns.invariant.holds).1
+    c.in-Ok.turn (sym c.need_after.ensures ∙ c.in-Turn.is) c.in-Ok.ensures.turned c.turns.invariant.holds).1
 
 pub turns-preserved-in-Turn : goal.turns-preserved-in-Turn
 turns-preserved-in-Turn g c = record {
@@ -48,33 +48,33 @@ turns-preserved-in-Turn g c = record {
   is_sound = λ s. (c.in-Ok.ensures.is_sound (c.turns.invariant.is_sound s)).0;
   goes = λ ws tell.
       step-goes g.M.Master.model c.args.end.now.clear.plan c.args.end.now.clear.master (length c.args.links.now)
-          (length c.turns.links) (said_on ws) c.turns.end c.step.new.end
+      (length c.turns.links) (said_on ws) c.turns.end c.step.new.end
       (map g.L.Link.told c.turns.links) (map g.L.Link.told c.step.new.links) (Ok c.in-Ok.turn) c.turns.invariant.size
-          c.in-Ok.ensures.goes (c.turns.invariant.goes ws tell);
+      c.in-Ok.ensures.goes (c.turns.invariant.goes ws tell);
 }
 
 pub read_on-requires-clause-there : goal.read_on-requires-clause-there
-read_on-requires-clause-there g c = 
+read_on-requires-clause-there g c =
     let there = step-there g.M.Master.model c.args.end.now.clear.plan c.args.end.now.clear.master (length
-        c.args.links.now) c.in-Bytes.port c.turns.end c.step.new.end c.in-Ok.turn (sym c.need_after.ensures
-            ∙ c.in-Bytes.is) c.in-Ok.ensures.turned c.turns.invariant.holds in
+    c.args.links.now) c.in-Bytes.port c.turns.end c.step.new.end c.in-Ok.turn (sym c.need_after.ensures
+    ∙ c.in-Bytes.is) c.in-Ok.ensures.turned c.turns.invariant.holds in
     let size : length c.step.new.end.ports ≡ length c.args.links.now = (sym c.in-Ok.ensures.ports
-        ∙ size-stays g.L.Link.count c.turns.links c.step.new.links c.in-Ok.turn c.in-Ok.ensures.counts
-            ∙ c.turns.invariant.size) in
+    ∙ size-stays g.L.Link.count c.turns.links c.step.new.links c.in-Ok.turn c.in-Ok.ensures.counts
+    ∙ c.turns.invariant.size) in
     omega (arith, there, size)
 
 pub read_on-requires-clause-waits : goal.read_on-requires-clause-waits
-read_on-requires-clause-waits g c = 
+read_on-requires-clause-waits g c =
     (step-waits g.M.Master.model c.in-Bytes.port c.turns.end c.step.new.end c.in-Ok.turn (sym c.need_after.ensures
-        ∙ c.in-Bytes.is) c.in-Ok.ensures.turned).0
+    ∙ c.in-Bytes.is) c.in-Ok.ensures.turned).0
 
 pub turns-smaller : goal.turns-smaller
-turns-smaller g c = 
+turns-smaller g c =
     (read-holds g.M.Master.model c.args.end.now.clear.plan c.args.end.now.clear.master (length c.args.links.now)
-        c.in-Bytes.port c.turns.end c.step.new.end c.read_on.new.end c.in-Ok.turn c.in-Ok-More.field-0
+    c.in-Bytes.port c.turns.end c.step.new.end c.read_on.new.end c.in-Ok.turn c.in-Ok-More.field-0
     c.in-Ok-More.field-0-is (sym c.need_after.ensures ∙ c.in-Bytes.is) c.in-Ok.ensures.turned c.turns.invariant.holds
-        (sym c.in-Ok.ensures.ports ∙ size-stays g.L.Link.count c.turns.links c.step.new.links c.in-Ok.turn
-            c.in-Ok.ensures.counts ∙ c.turns.invariant.size) c.in-Ok-More.ensures.fed).1
+    (sym c.in-Ok.ensures.ports ∙ size-stays g.L.Link.count c.turns.links c.step.new.links c.in-Ok.turn
+    c.in-Ok.ensures.counts ∙ c.turns.invariant.size) c.in-Ok-More.ensures.fed).1
 
 pub turns-preserved : goal.turns-preserved
 turns-preserved g c = record {
@@ -82,89 +82,92 @@ turns-preserved g c = record {
   ports = c.in-Ok-More.ensures.ports;
   size = size-stays g.L.Link.count c.step.new.links c.read_on.new.links c.in-Ok-More.field-0
       c.in-Ok-More.ensures.counts ∙ size-stays g.L.Link.count c.turns.links c.step.new.links c.in-Ok.turn
-          c.in-Ok.ensures.counts ∙ c.turns.invariant.size;
+      c.in-Ok.ensures.counts ∙ c.turns.invariant.size;
   holds = (read-holds g.M.Master.model c.args.end.now.clear.plan c.args.end.now.clear.master (length
       c.args.links.now) c.in-Bytes.port c.turns.end c.step.new.end c.read_on.new.end c.in-Ok.turn c.in-Ok-More.field-0
-    c.in-Ok-More.field-0-is (sym c.need_after.ensures ∙ c.in-Bytes.is) c.in-Ok.ensures.turned c.turns.invariant.holds
-        (sym c.in-Ok.ensures.ports ∙ size-stays g.L.Link.count c.turns.links c.step.new.links c.in-Ok.turn
-            c.in-Ok.ensures.counts ∙ c.turns.invariant.size) c.in-Ok-More.ensures.fed).0;
+      c.in-Ok-More.field-0-is (sym c.need_after.ensures ∙ c.in-Bytes.is) c.in-Ok.ensures.turned c.turns.invariant.holds
+      (sym c.in-Ok.ensures.ports ∙ size-stays g.L.Link.count c.turns.links c.step.new.links c.in-Ok.turn
+      c.in-Ok.ensures.counts ∙ c.turns.invariant.size) c.in-Ok-More.ensures.fed).0;
   counts = counts-stay (map g.L.Link.count c.step.new.links) (map g.L.Link.count c.read_on.new.links)
       c.in-Ok-More.field-0 c.in-Ok-More.ensures.counts
       ∙ counts-stay (map g.L.Link.count c.turns.links) (map g.L.Link.count c.step.new.links) c.in-Ok.turn
-          c.in-Ok.ensures.counts ∙ c.turns.invariant.counts;
+      c.in-Ok.ensures.counts ∙ c.turns.invariant.counts;
   is_sound = λ s. (c.in-Ok-More.ensures.is_sound (c.in-Ok.ensures.is_sound (c.turns.invariant.is_sound s)).0).0;
   goes = λ ws tell.
       subst (λ r. ReadsOn g.M.Master.model (machine_start Cause c.args.end.now.clear.master (length c.args.links.now)
-          c.args.end.now.clear.plan) (said_on ws) c.in-Bytes.port
+      c.args.end.now.clear.plan) (said_on ws) c.in-Bytes.port
       c.read_on.new.end (map g.L.Link.told c.read_on.new.links) (Ok r)) c.in-Ok-More.field-0-is
       (read-on-goes g.M.Master.model c.args.end.now.clear.plan c.args.end.now.clear.master (length c.args.links.now)
-          (length c.step.new.links) c.in-Bytes.port (said_on ws) c.step.new.end c.read_on.new.end
+      (length c.step.new.links) c.in-Bytes.port (said_on ws) c.step.new.end c.read_on.new.end
       (map g.L.Link.told c.step.new.links) (map g.L.Link.told c.read_on.new.links) (Ok c.in-Ok-More.field-0)
-          (size-stays g.L.Link.count c.turns.links c.step.new.links c.in-Ok.turn c.in-Ok.ensures.counts
-              ∙ c.turns.invariant.size) c.in-Ok-More.ensures.goes
+      (size-stays g.L.Link.count c.turns.links c.step.new.links c.in-Ok.turn c.in-Ok.ensures.counts
+      ∙ c.turns.invariant.size) c.in-Ok-More.ensures.goes
       (step-goes g.M.Master.model c.args.end.now.clear.plan c.args.end.now.clear.master (length c.args.links.now)
-          (length c.turns.links) (said_on ws) c.turns.end c.step.new.end
+      (length c.turns.links) (said_on ws) c.turns.end c.step.new.end
       (map g.L.Link.told c.turns.links) (map g.L.Link.told c.step.new.links) (Ok c.in-Ok.turn) c.turns.invariant.size
-          c.in-Ok.ensures.goes (c.turns.invariant.goes ws tell)));
+      c.in-Ok.ensures.goes (c.turns.invariant.goes ws tell)));
 }
 
 pub returns-in-Ok-End-clause-leaves : goal.returns-in-Ok-End-clause-leaves
 returns-in-Ok-End-clause-leaves g c = λ ws tell.
-    subst (λ s. Leaves g.M.Master.model s (said_on ws) c.read_on.new.end.clear (Err (turn_fault.Port (record { port =
-        c.in-Bytes.port; fault = c.finish-fault.result }))) (map g.L.Link.told c.read_on.new.links))
+    subst (λ s. Leaves g.M.Master.model s (said_on ws) c.read_on.new.end.clear (Err (turn_fault.Port (record {
+      port =
+          c.in-Bytes.port;
+      fault = c.finish-fault.result;
+    }))) (map g.L.Link.told c.read_on.new.links))
     (sym (ap (λ e. e.clear) c.requires.fresh))
     (ends-leaves g.M.Master.model c.args.end.now.clear.plan c.args.end.now.clear.master (length c.args.links.now)
-        (said_on ws) c.in-Bytes.port c.turns.end c.step.new.end c.read_on.new.end c.in-Ok.turn
+    (said_on ws) c.in-Bytes.port c.turns.end c.step.new.end c.read_on.new.end c.in-Ok.turn
     c.in-Ok-End.field-0 c.finish-fault.result (map g.L.Link.told c.read_on.new.links) c.in-Ok-End.field-0-is (sym
-        c.need_after.ensures ∙ c.in-Bytes.is) c.in-Ok.ensures.turned
+    c.need_after.ensures ∙ c.in-Bytes.is) c.in-Ok.ensures.turned
     c.turns.invariant.holds (sym c.in-Ok.ensures.ports ∙ size-stays g.L.Link.count c.turns.links c.step.new.links
-        c.in-Ok.turn c.in-Ok.ensures.counts ∙ c.turns.invariant.size) c.in-Ok.ensures.kept c.in-Ok.ensures.rests
-            c.in-Ok-End.ensures.fed c.finish-fault.ensures
+    c.in-Ok.turn c.in-Ok.ensures.counts ∙ c.turns.invariant.size) c.in-Ok.ensures.kept c.in-Ok.ensures.rests
+    c.in-Ok-End.ensures.fed c.finish-fault.ensures
     (read-on-goes g.M.Master.model c.args.end.now.clear.plan c.args.end.now.clear.master (length c.args.links.now)
-        (length c.step.new.links) c.in-Bytes.port (said_on ws) c.step.new.end c.read_on.new.end
-      (map g.L.Link.told c.step.new.links) (map g.L.Link.told c.read_on.new.links) (Ok c.in-Ok-End.field-0)
-          (size-stays g.L.Link.count c.turns.links c.step.new.links c.in-Ok.turn c.in-Ok.ensures.counts
-              ∙ c.turns.invariant.size) c.in-Ok-End.ensures.goes
-      (step-goes g.M.Master.model c.args.end.now.clear.plan c.args.end.now.clear.master (length c.args.links.now)
-          (length c.turns.links) (said_on ws) c.turns.end c.step.new.end
-      (map g.L.Link.told c.turns.links) (map g.L.Link.told c.step.new.links) (Ok c.in-Ok.turn) c.turns.invariant.size
-          c.in-Ok.ensures.goes (c.turns.invariant.goes ws tell))))
+    (length c.step.new.links) c.in-Bytes.port (said_on ws) c.step.new.end c.read_on.new.end
+    (map g.L.Link.told c.step.new.links) (map g.L.Link.told c.read_on.new.links) (Ok c.in-Ok-End.field-0)
+    (size-stays g.L.Link.count c.turns.links c.step.new.links c.in-Ok.turn c.in-Ok.ensures.counts
+    ∙ c.turns.invariant.size) c.in-Ok-End.ensures.goes
+    (step-goes g.M.Master.model c.args.end.now.clear.plan c.args.end.now.clear.master (length c.args.links.now)
+    (length c.turns.links) (said_on ws) c.turns.end c.step.new.end
+    (map g.L.Link.told c.turns.links) (map g.L.Link.told c.step.new.links) (Ok c.in-Ok.turn) c.turns.invariant.size
+    c.in-Ok.ensures.goes (c.turns.invariant.goes ws tell))))
 
 pub returns-in-Err-read_on-clause-leaves : goal.returns-in-Err-read_on-clause-leaves
 returns-in-Err-read_on-clause-leaves g c = λ ws tell.
     subst (λ s. Leaves g.M.Master.model s (said_on ws) c.read_on.new.end.clear (Err c.in-Err-read_on.fault) (map
-        g.L.Link.told c.read_on.new.links))
+    g.L.Link.told c.read_on.new.links))
     (sym (ap (λ e. e.clear) c.requires.fresh))
     (read-on-goes g.M.Master.model c.args.end.now.clear.plan c.args.end.now.clear.master (length c.args.links.now)
-        (length c.step.new.links) c.in-Bytes.port (said_on ws) c.step.new.end c.read_on.new.end
-      (map g.L.Link.told c.step.new.links) (map g.L.Link.told c.read_on.new.links) (Err c.in-Err-read_on.fault)
-          (size-stays g.L.Link.count c.turns.links c.step.new.links c.in-Ok.turn c.in-Ok.ensures.counts
-              ∙ c.turns.invariant.size) c.in-Err-read_on.ensures.goes
-      (step-goes g.M.Master.model c.args.end.now.clear.plan c.args.end.now.clear.master (length c.args.links.now)
-          (length c.turns.links) (said_on ws) c.turns.end c.step.new.end
-      (map g.L.Link.told c.turns.links) (map g.L.Link.told c.step.new.links) (Ok c.in-Ok.turn) c.turns.invariant.size
-          c.in-Ok.ensures.goes (c.turns.invariant.goes ws tell)))
+    (length c.step.new.links) c.in-Bytes.port (said_on ws) c.step.new.end c.read_on.new.end
+    (map g.L.Link.told c.step.new.links) (map g.L.Link.told c.read_on.new.links) (Err c.in-Err-read_on.fault)
+    (size-stays g.L.Link.count c.turns.links c.step.new.links c.in-Ok.turn c.in-Ok.ensures.counts
+    ∙ c.turns.invariant.size) c.in-Err-read_on.ensures.goes
+    (step-goes g.M.Master.model c.args.end.now.clear.plan c.args.end.now.clear.master (length c.args.links.now)
+    (length c.turns.links) (said_on ws) c.turns.end c.step.new.end
+    (map g.L.Link.told c.turns.links) (map g.L.Link.told c.step.new.links) (Ok c.in-Ok.turn) c.turns.invariant.size
+    c.in-Ok.ensures.goes (c.turns.invariant.goes ws tell)))
 
 pub returns-in-Nothing-clause-leaves : goal.returns-in-Nothing-clause-leaves
 returns-in-Nothing-clause-leaves g c = λ ws tell.
     subst (λ s. Leaves g.M.Master.model s (said_on ws) c.step.new.end.clear (Ok tt) (map g.L.Link.told
-        c.step.new.links))
+    c.step.new.links))
     (sym (ap (λ e. e.clear) c.requires.fresh))
     (stops-leaves g.M.Master.model c.args.end.now.clear.plan c.args.end.now.clear.master (length c.args.links.now)
-        (said_on ws) c.turns.end c.step.new.end c.in-Ok.turn (map g.L.Link.told c.step.new.links) (sym
-            c.need_after.ensures ∙ c.in-Nothing.is)
+    (said_on ws) c.turns.end c.step.new.end c.in-Ok.turn (map g.L.Link.told c.step.new.links) (sym
+    c.need_after.ensures ∙ c.in-Nothing.is)
     c.in-Ok.ensures.turned c.in-Ok.ensures.kept c.in-Ok.ensures.rests
     (step-goes g.M.Master.model c.args.end.now.clear.plan c.args.end.now.clear.master (length c.args.links.now)
-        (length c.turns.links) (said_on ws) c.turns.end c.step.new.end
-      (map g.L.Link.told c.turns.links) (map g.L.Link.told c.step.new.links) (Ok c.in-Ok.turn) c.turns.invariant.size
-          c.in-Ok.ensures.goes (c.turns.invariant.goes ws tell)))
+    (length c.turns.links) (said_on ws) c.turns.end c.step.new.end
+    (map g.L.Link.told c.turns.links) (map g.L.Link.told c.step.new.links) (Ok c.in-Ok.turn) c.turns.invariant.size
+    c.in-Ok.ensures.goes (c.turns.invariant.goes ws tell)))
 
 pub returns-in-Err-clause-leaves : goal.returns-in-Err-clause-leaves
 returns-in-Err-clause-leaves g c = λ ws tell.
     subst (λ s. Leaves g.M.Master.model s (said_on ws) c.step.new.end.clear (Err c.in-Err.fault) (map g.L.Link.told
-        c.step.new.links))
+    c.step.new.links))
     (sym (ap (λ e. e.clear) c.requires.fresh))
     (step-goes g.M.Master.model c.args.end.now.clear.plan c.args.end.now.clear.master (length c.args.links.now) {A =
-        Turn} (length c.turns.links) (said_on ws) c.turns.end c.step.new.end
+    Turn} (length c.turns.links) (said_on ws) c.turns.end c.step.new.end
     (map g.L.Link.told c.turns.links) (map g.L.Link.told c.step.new.links) (Err c.in-Err.fault)
-        c.turns.invariant.size c.in-Err.ensures.goes (c.turns.invariant.goes ws tell))
+    c.turns.invariant.size c.in-Err.ensures.goes (c.turns.invariant.goes ws tell))

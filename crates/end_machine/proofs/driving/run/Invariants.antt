@@ -21,7 +21,7 @@ invariant-turns g l = record {
   goes :
       (ws : List Wire) → AllTell (map g.L.Link.told l.fn.links) ws
       → Going g.M.Master.model (machine_start Cause l.fn.end.clear.master (length l.fn.links) l.fn.end.clear.plan)
-          (said_on ws) l.end
+      (said_on ws) l.end
       (map g.L.Link.told l.links);
 }
 
