@@ -18,15 +18,21 @@ def lines():
     return {line.split(":")[0].split()[0]: line for line in found if line}
 
 
-def lines_of(crates):
-    """A crates.txt of these crates alone."""
-    return [f"{line}\n" for name, line in lines().items() if name in crates]
+def named():
+    """Each crate of crates.txt, with the libraries that its line names."""
+    return {name: line.split(":", 1)[1].split() for name, line in lines().items()}
 
 
 def all_crates():
     """Each crate of crates.txt, with those of them that it stands on."""
-    found = {name: line.split(":", 1)[1].split() for name, line in lines().items()}
+    found = named()
     return {name: [crate for crate in below if crate in found] for name, below in found.items()}
+
+
+def kit_libraries(name):
+    """The libraries of the kit that a crate's line names."""
+    found = named()
+    return [library for library in found[name] if library not in found]
 
 
 def below(name):
@@ -70,20 +76,42 @@ def ways(crates):
     return longest
 
 
+def add_sources(total, name):
+    """Adds a crate's sources with their paths to a checksum, and what the crate stands on."""
+    total.update(f"{name}: {' '.join(all_crates()[name])}\n".encode())
+    for part in ("proofs", "specs", "src"):
+        paths = []
+        for folder, _, files in os.walk(os.path.join(CRATES, name, part)):
+            paths += [os.path.join(folder, file) for file in files]
+        for path in sorted(paths):
+            with open(path, "rb") as file:
+                total.update(os.path.relpath(path, TOP).encode() + b"\n" + hashlib.sha256(file.read()).digest())
+
+
+def stamp(name, version):
+    """The checksum of all that a crate is proved of by this version of the kit: its sources, and those of the crates below it."""
+    total = hashlib.sha256(version.encode())
+    for crate in sorted(below(name)):
+        total.update(" ".join(kit_libraries(crate)).encode() + b"\n")
+        add_sources(total, crate)
+    return total.hexdigest()
+
+
+def text(path):
+    """What a file holds; nothing where it isn't there."""
+    try:
+        with open(path, encoding="utf-8") as file:
+            return file.read()
+    except OSError:
+        return ""
+
+
 def sources():
     """The checksum of all that the program is proved and built of: its crates' sources with their paths, what each crate stands
     on, and the handles that it may use."""
     total = hashlib.sha256()
-    crates = below("cosim")
-    for name in sorted(crates):
-        total.update(f"{name}: {' '.join(crates[name])}\n".encode())
-        for part in ("proofs", "specs", "src"):
-            paths = []
-            for folder, _, files in os.walk(os.path.join(CRATES, name, part)):
-                paths += [os.path.join(folder, file) for file in files]
-            for path in sorted(paths):
-                with open(path, "rb") as file:
-                    total.update(os.path.relpath(path, TOP).encode() + b"\n" + hashlib.sha256(file.read()).digest())
+    for name in sorted(below("cosim")):
+        add_sources(total, name)
     with open(os.path.join(TOP, "HANDLES"), "rb") as handles:
         total.update(handles.read())
     return total.hexdigest()

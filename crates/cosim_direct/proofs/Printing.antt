@@ -1,5 +1,9 @@
 -- The text of a run that is over is that of the direct machine.
-use Rattle.std.proofs.Common.{ℕ, ◌≡◌, List, [], ◌∷◌, ◌++◌, map, refl, ap, sym, ◌∙◌}
+use Rattle.std.proofs.Common.{ℕ, ◌≡◌, List, [], ◌∷◌, ◌++◌, IfOk, map, refl, ap, sym, ◌∙◌, subst}
+use Rattle.std.specs.declared.result.Result.{Result}
+use Rattle.std.specs.declared.result.Result.TheVariants.{Ok, Err}
+use Rattle.cos_api.specs.declared.calls.Calls.{Calls}
+use Rattle.cos_base.specs.declared.no_memory.NoMemory.{NoMemory}
 use Rattle.std.specs.List.{flat_map}
 use Rattle.std.proofs.lemmas.List.Folds.{flat_map-map}
 use Rattle.cosim_model.specs.declared.values.Call.{Call}
@@ -15,6 +19,8 @@ use Rattle.transcript.specs.declared.ending.Ending.{Ending}
 use Rattle.transcript.specs.CallLines.{call_text}
 use Rattle.transcript.specs.ClosingLines.{stop_line, hart_lines, state_lines, head_text, uart_line, out_line, closing_text, run_text}
 use Rattle.transcript.specs.Sent.{port_and_bytes, port_and_sent, AreSent}
+use Rattle.cosim_direct.specs.declared.finished.Finished.{Finished}
+use Rattle.cosim_direct.specs.Endings.{IsEnding}
 use Rattle.cosim_direct.specs.Texts.{sent_line, uarts_from, run_lines}
 
 abbrev pub pair_line : ℕ × List ℕ → List ℕ
@@ -24,17 +30,33 @@ pub sent-lines : (calls : List Call) (ports : List ℕ) (outs : List Out) → Ar
 sent-lines calls ports outs are =
     sym (flat_map-map pair_line port_and_bytes outs) ∙ ap (λ l. flat_map pair_line l) are ∙ flat_map-map pair_line (port_and_sent calls) ports
 
--- The run's text, by what is held at its end.
-pub run-printed : (r : Direct AnyMaster AnyDevice) (ports : List PortConfig) (calls : List Call) (e : Ending) (uarts : List ℕ) → calls ≡ r.calls → e.stop ≡ any_stopped r.master → e.ticks ≡ r.tick
-    → e.closing ≡ any_closing r.master → e.ram ≡ sha256 (any_ram r.master) → uarts ≡ uarts_from 0 ports → AreSent calls uarts e.outs → run_text calls e ≡ run_lines r ports
-run-printed r ports calls e uarts called stop ticks closing ram ports-are sent =
+-- The run's text, by what is told at its end.
+pub run-printed : (r : Direct AnyMaster AnyDevice) (ports : List PortConfig) (calls : List Call) (master : AnyMaster)
+    (after : ℕ) (e : Ending) → calls ≡ r.calls → master ≡ r.master → after ≡ r.tick → IsEnding calls master after ports e
+    → run_text calls e ≡ run_lines r ports
+run-printed r ports calls master after e called left ticked is =
     let outs : flat_map out_line e.outs ≡ flat_map (sent_line r.calls) (uarts_from 0 ports) =
-    sent-lines calls uarts e.outs sent ∙ ap (λ l. flat_map (sent_line calls) l) ports-are ∙ ap (λ l. flat_map (sent_line l) (uarts_from 0 ports)) called in
-    let head : head_text e ≡ stop_line (any_stopped r.master) r.tick ++ hart_lines (any_closing r.master).hart ++ state_lines (any_closing r.master).lines (sha256 (any_ram r.master)) =
-    ap (λ x. stop_line x e.ticks ++ hart_lines e.closing.hart ++ state_lines e.closing.lines e.ram) stop
-    ∙ ap (λ x. stop_line (any_stopped r.master) x ++ hart_lines e.closing.hart ++ state_lines e.closing.lines e.ram) ticks
-    ∙ ap (λ (x : Closing). stop_line (any_stopped r.master) r.tick ++ hart_lines x.hart ++ state_lines x.lines e.ram) closing
-    ∙ ap (λ x. stop_line (any_stopped r.master) r.tick ++ hart_lines (any_closing r.master).hart ++ state_lines (any_closing r.master).lines x) ram in
+    sent-lines calls (uarts_from 0 ports) e.outs is.outs
+    ∙ ap (λ l. flat_map (sent_line l) (uarts_from 0 ports)) called in
+    let head : head_text e ≡ stop_line (any_stopped r.master) r.tick ++ hart_lines (any_closing r.master).hart
+    ++ state_lines (any_closing r.master).lines (sha256 (any_ram r.master)) =
+    ap (λ x. stop_line x e.ticks ++ hart_lines e.closing.hart ++ state_lines e.closing.lines e.ram) is.stop
+    ∙ ap (λ x. stop_line (any_stopped master) x ++ hart_lines e.closing.hart ++ state_lines e.closing.lines e.ram) is.ticks
+    ∙ ap (λ (x : Closing). stop_line (any_stopped master) after ++ hart_lines x.hart ++ state_lines x.lines e.ram)
+    is.closing
+    ∙ ap (λ x. stop_line (any_stopped master) after ++ hart_lines (any_closing master).hart
+    ++ state_lines (any_closing master).lines x) is.ram
+    ∙ ap (λ m. stop_line (any_stopped m) after ++ hart_lines (any_closing m).hart
+    ++ state_lines (any_closing m).lines (sha256 (any_ram m))) left
+    ∙ ap (λ x. stop_line (any_stopped r.master) x ++ hart_lines (any_closing r.master).hart
+    ++ state_lines (any_closing r.master).lines (sha256 (any_ram r.master))) ticked in
     ap (λ l. flat_map call_text l ++ closing_text e) called
     ∙ ap (λ l. flat_map call_text r.calls ++ (l ++ flat_map out_line e.outs)) head
-    ∙ ap (λ l. flat_map call_text r.calls ++ (stop_line (any_stopped r.master) r.tick ++ hart_lines (any_closing r.master).hart ++ state_lines (any_closing r.master).lines (sha256 (any_ram r.master)) ++ l)) outs
+    ∙ ap (λ l. flat_map call_text r.calls ++ (stop_line (any_stopped r.master) r.tick
+    ++ hart_lines (any_closing r.master).hart ++ state_lines (any_closing r.master).lines (sha256 (any_ram r.master)) ++ l)) outs
+
+-- What holds of the calls and the end that a run is made of holds of the run.
+pub finished-of : (P : Calls → Ending → Type 0) (r : Result Finished NoMemory) (calls : Calls) (e : Ending)
+    → IfOk r (λ f. f.calls ≡ calls) → IfOk r (λ f. f.end ≡ e) → P calls e → IfOk r (λ f. P f.calls f.end)
+finished-of P (Ok f) calls e same ends is = subst (λ x. P x f.end) (sym same) (subst (λ x. P calls x) (sym ends) is)
+finished-of P (Err fault) calls e same ends is = tt

@@ -1,3 +1,4 @@
 pub mod Directs
+pub mod Endings
 pub mod Steps
 pub mod Texts

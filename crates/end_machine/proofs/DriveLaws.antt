@@ -1,5 +1,6 @@
 -- What driving leaves is by Talk, and over honest links it is what the direct machine leaves.
-use Rattle.std.proofs.Common.{◌≡◌, ℕ, zero, suc, ◌<◌, List, [], ◌∷◌, ◌++◌, drop, length, get_or, map, refl, sym, ap, ◌∙◌, subst, Result, Ok, Err}
+use Rattle.std.proofs.Common.{◌≡◌, ℕ, zero, suc, ◌<◌, List, [], ◌∷◌, ◌++◌, drop, length, get_or, map, refl, sym, ap}
+use Rattle.std.proofs.Common.{◌∙◌, subst, Result, Ok, Err}
 use Rattle.std.specs.Prelude.{Option, Some, None, slice_get}
 use Rattle.std.proofs.lemmas.Option.{none-some, same_Some}
 use Rattle.byte_streams.specs.Prefixes.{IsPrefix}
@@ -56,18 +57,21 @@ module _ {M : Type 0} (k : MasterModel M) where
       → Rests k h y
   awaits-same h x y p is same rests =
       ap (hub_turn_by (machine_alone k packet_codec) h y) is
-      ∙ ap (λ b. hub_after_take (machine_alone k packet_codec) h p (packet_codec.first (drop (get_or h.taken p 0) b))) (sym same)
+      ∙ ap (λ b. hub_after_take (machine_alone k packet_codec) h p (packet_codec.first (drop (get_or h.taken p 0)
+      b))) (sym same)
       ∙ sym (ap (hub_turn_by (machine_alone k packet_codec) h x) is) ∙ rests
 
   -- an end that rests over what was received rests over all that the links give for what it sent
-  rests-given : (h : Taking M) (x sent : Streams) (said : Said) (r : Result Unit TurnFault) → Rests k h x → EndsSo k h x r
+  rests-given : (h : Taking M) (x sent : Streams) (said : Said) (r : Result Unit TurnFault) → Rests k h x
+      → EndsSo k h x r
       → IsAllRead said x sent r → Rests k h (λ p. said p (sent p))
   rests-given h x sent said (Ok u) rests ends all = halts h _ (looks-done k h.core ends.0 ends.1)
   rests-given h x sent said (Err turn_fault.NoMemory) rests ends all = absurd ends
   rests-given h x sent said (Err (turn_fault.Port f)) rests ends all = by f.port f.fault ends all
     where
       by : (p : ℕ) (e : EndFault PacketFault) → FailsSo k h x p e
-          → IsAllRead said x sent (Err (turn_fault.Port (record { port = p; fault = e }))) → Rests k h (λ p. said p (sent p))
+          → IsAllRead said x sent (Err (turn_fault.Port (record { port = p; fault = e })))
+          → Rests k h (λ p. said p (sent p))
       by p (fault.Ended n) ends all = awaits-same h x _ p ends.0 all rests
       by p (fault.Truncated a b) ends all = awaits-same h x _ p ends.0 all rests
       by p (fault.Malformed f) ends all = halts h _ (looks-halted k h.core _ ends.0)
@@ -93,7 +97,7 @@ module _ {M : Type 0} (k : MasterModel M) where
       by p (fault.Malformed f) ends = (
         ends.0,
         subst (λ b. IsPlaced b (Some (fault.Malformed f))) (below p).1
-        (placed-longer (x p) (below p).0 (fault.Malformed f) ends.1),
+            (placed-longer (x p) (below p).0 (fault.Malformed f) ends.1),
       )
       by p (fault.Session f) ends = ends
       by p (fault.LateWant at got) ends = ends
@@ -117,7 +121,8 @@ module _ {M : Type 0} (k : MasterModel M) (plan : Plan) (m : M) where
   within-said : (ns : List Wire) (said : Said) → ((p : ℕ) → said_on ns p ≡ said p)
       → ((p : ℕ) (w : Wire) → slice_get ns p ≡ Some w → IsWire w) → Below (received_on ns) (λ p. said p (sent_on ns p))
   within-said ns said same wires p =
-      subst (λ (f : List ℕ → List ℕ). IsPrefix (received_on ns p) (f (sent_on ns p))) (same p) (by (slice_get ns p) refl)
+      subst (λ (f : List ℕ → List ℕ). IsPrefix (received_on ns p) (f (sent_on ns p))) (same p) (by (slice_get ns p)
+      refl)
     where
       by : (o : Option Wire) → slice_get ns p ≡ o → IsPrefix (received_of o) (said_of o (sent_of o))
       by None is = IsPrefix-same []
@@ -156,7 +161,8 @@ module _ {M : Type 0} (k : MasterModel M) (plan : Plan) (m : M) where
       let h = is.hub in
       let within = within-said ns said is.same wires in
       let rests = rests-given k h x sent said r is.whole.rests is.ends is.all in
-      let settled = settles k plan (length ns) m said telling x is.whole.turns h sent is.whole.run within rests is.in_time in
+      let settled = settles k plan (length ns) m said telling x is.whole.turns h sent is.whole.run within rests
+      is.in_time in
       let longer : (p : ℕ) → said p (sent p) ≡ settled.given p = λ p. sym (settled.fixed p) in
       record {
         rounds = settled.rounds;
@@ -173,7 +179,8 @@ module _ {M : Type 0} (k : MasterModel M) (plan : Plan) (m : M) where
         parts = is.parts;
       }
 
-  pub leaves-talk : (said : Said) (e : MachineEnd M Cause) (r : Result Unit TurnFault) (now : List (Option Wire)) → IsTelling said
+  pub leaves-talk : (said : Said) (e : MachineEnd M Cause) (r : Result Unit TurnFault) (now : List (Option Wire))
+      → IsTelling said
       → ((p : ℕ) (w : Wire) → slice_get now p ≡ Some (Some w) → IsWire w)
       → Leaves k (machine_start Cause m (length now) plan) said e r now
       → ByTalk k (machine_start Cause m (length now) plan) (length now) said e r
@@ -188,8 +195,15 @@ module _ {M : Type 0} (k : MasterModel M) (plan : Plan) (m : M) where
           (subst (λ n. IsDriven k (machine_start Cause m n plan) said e r ns) size is))
 
       faults : (p : ℕ) (x : EndFault PacketFault)
-          → Leaves k (machine_start Cause m (length now) plan) said e (Err (turn_fault.Port (record { port = p; fault = x }))) now
-          → ByTalk k (machine_start Cause m (length now) plan) (length now) said e (Err (turn_fault.Port (record { port = p; fault = x })))
+          → Leaves k (machine_start Cause m (length now) plan) said e (Err (turn_fault.Port (record {
+            port = p;
+            fault
+                = x;
+          }))) now
+          → ByTalk k (machine_start Cause m (length now) plan) (length now) said e (Err (turn_fault.Port (record {
+            port = p;
+            fault = x;
+          })))
       faults p (fault.Link n) left = tt
       faults p (fault.Ended n) left = told _ left
       faults p (fault.Truncated a b) left = told _ left

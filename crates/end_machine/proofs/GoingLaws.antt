@@ -1,5 +1,6 @@
 -- How far the links and the end have come, from call to call of drive.
-use Rattle.std.proofs.Common.{◌≡◌, ℕ, ◌<◌, ◌≤◌, List, [], ◌++◌, length, drop, get_or, map, set, refl, sym, ap, ◌∙◌, subst, arith, Result, Ok, Err}
+use Rattle.std.proofs.Common.{◌≡◌, ℕ, ◌<◌, ◌≤◌, List, [], ◌++◌, length, drop, get_or, map, set, refl, sym, ap, ◌∙◌}
+use Rattle.std.proofs.Common.{subst, arith, Result, Ok, Err}
 use Rattle.std.specs.Prelude.{Option, Some, None, IfSome, option_map, slice_get}
 use Rattle.std.proofs.lemmas.List.{append-nil, length-map, length-set}
 use Rattle.std.proofs.lemmas.Option.{none-some, same_Some}
@@ -31,14 +32,17 @@ use Rattle.machine_turns.specs.declared.fault.TurnFault.{TurnFault}
 use Rattle.machine_turns.specs.declared.fault.TurnFault.TheVariants as turn_fault
 use Rattle.machine_turns.specs.Runs.{Grown, IsRun, Rests, Taking, only_at}
 use Rattle.machine_turns.specs.RunLaws.{fed-runs}
-use Rattle.machine_turns.specs.Ends.{End, GoesOn, HasRun, IsAtFront, IsAtRest, IsBlamedAt, IsPlacedAt, Pulls, RunsOn, Sends, SendsAll, Turns, core_of, held_at, port_cause, taken_at}
+use Rattle.machine_turns.specs.Ends.{End, GoesOn, HasRun, IsAtFront, IsAtRest, IsBlamedAt, IsPlacedAt, Pulls, RunsOn}
+use Rattle.machine_turns.specs.Ends.{Sends, SendsAll, Turns, core_of, held_at, port_cause, taken_at}
 use Rattle.end_machine.specs.Wires.{AllTell, Said, received_of, received_on, said_of, said_on, sent_of, sent_on}
 use Rattle.end_machine.specs.Talk.{EndsSo, FailsSo, HasParts, IfLink}
 use Rattle.end_machine.specs.Driving.{IsAllRead, IsDriven, IsInTime, IsPartly, Leaves, Tells}
-use Rattle.end_machine.specs.Going.{AreSent, FinishesBy, Going, IsAtEnd, IsGoing, OnlyLink, ReadsOn, SendsOn, port_of, with_sent}
+use Rattle.end_machine.specs.Going.{AreSent, FinishesBy, Going, IsAtEnd, IsGoing, OnlyLink, ReadsOn, SendsOn, port_of}
+use Rattle.end_machine.specs.Going.{with_sent}
 use Rattle.end_machine.proofs.TalkLaws.{sends-less}
 use Rattle.end_machine.proofs.LinkLaws.{told-set, told-there}
-use Rattle.end_machine.proofs.WireLaws.{all-set, read-grows, read-said, read-sent, sent-grows, sent-received, sent-said, set-self, tell-at, tell-set, tell-size, there-some}
+use Rattle.end_machine.proofs.WireLaws.{all-set, read-grows, read-said, read-sent, sent-grows, sent-received}
+use Rattle.end_machine.proofs.WireLaws.{sent-said, set-self, tell-at, tell-set, tell-size, there-some}
 
 parts-of : {M : Type 0} (e : End M) (h : Taking M) → core_of e ≡ h.core → HasParts e.clear h
 parts-of e h core = (ap (λ c. c.master) core, ap (λ c. c.calls) core, ap (λ c. c.tick) core)
@@ -73,7 +77,8 @@ module _ {M : Type 0} (k : MasterModel M) (start : MachineEnd M Cause) (said : S
 
   -- Nothing is sent or received: what was sent is a beginning of what a run sends.
   part-at : (e : End M) (ns : List Wire) (sent : Streams) → ((p : ℕ) → IsPrefix (sent_on ns p) (sent p))
-      → (now : List (Option Wire)) → AllTell now ns → (p : ℕ) (o : Option (Option Wire)) → slice_get now p ≡ o → (n : Wire)
+      → (now : List (Option Wire)) → AllTell now ns → (p : ℕ) (o : Option (Option Wire)) → slice_get now p ≡ o
+      → (n : Wire)
       → o ≡ Some (Some n) → (n.received ≡ received_on ns p) × IsPrefix n.sent (sent p)
   part-at e ns sent less now tell p o there n is =
       let at = tell-at now ns p (Some n) tell (there ∙ is) in
@@ -86,12 +91,14 @@ module _ {M : Type 0} (k : MasterModel M) (start : MachineEnd M Cause) (said : S
     turns = g.run.turns;
     hub = g.run.hub;
     sent = sent_on ns;
-    run = subst (λ n. IsRun k start n (received_on ns) g.run.turns g.run.hub (sent_on ns)) (sym (tell-size now ns tell)) g.run.run;
+    run = subst (λ n. IsRun k start n (received_on ns) g.run.turns g.run.hub (sent_on ns)) (sym (tell-size now ns
+        tell)) g.run.run;
     links = λ p n is. part-at e ns (sent_on ns) (λ p. IsPrefix-same (sent_on ns p)) now tell p _ refl n is;
   }
 
   -- after a failure of a link, or for want of memory
-  pub part-leaves : (e : MachineEnd M Cause) (f : TurnFault) → OnlyLink {A = Unit {0}} (Err f) → (now : List (Option Wire))
+  pub part-leaves : (e : MachineEnd M Cause) (f : TurnFault) → OnlyLink {A = Unit {0}} (Err f)
+      → (now : List (Option Wire))
       → IsPartly k start now → Leaves k start said e (Err f) now
   part-leaves e turn_fault.NoMemory only now part = part
   part-leaves e (turn_fault.Port f) only now part = by f.port f.fault only
@@ -120,15 +127,18 @@ module _ {M : Type 0} (k : MasterModel M) (start : MachineEnd M Cause) (said : S
       record {
         telling = g.telling;
         same = λ q. sent-said ns p w bytes there q ∙ g.same q;
-        run = run-as (length ns) (length next) (received_on ns) (received_on next) (sent_on next) (sent_on next) new (sym size)
+        run = run-as (length ns) (length next) (received_on ns) (received_on next) (sent_on next) (sent_on next) new
+            (sym size)
             (λ q. sym (received q)) (λ q. refl)
             (goes start (length ns) (received_on ns) (sent_on ns) (sent_on next) grown g.run);
-        in_time = in-time-as (length ns) (length next) (received_on ns) (received_on next) (sym size) (λ q. sym (received q))
+        in_time = in-time-as (length ns) (length next) (received_on ns) (received_on next) (sym size) (λ q. sym
+            (received q))
             g.in_time;
       }
 
   pub going-sent : (e new : End M) (p : ℕ) (before out bytes : List ℕ) (now after : List (Option Wire)) → p < length now
-      → GoesOn k e new before out (Ok (turn.Sent p)) → bytes ≡ drop (length before) out → SendsOn now after p bytes (Ok tt)
+      → GoesOn k e new before out (Ok (turn.Sent p)) → bytes ≡ drop (length before) out
+      → SendsOn now after p bytes (Ok tt)
       → Going k start said e now → Going k start said new after
   going-sent e new p before out bytes now after within goes is sends (ns, tell, g) =
       let size = tell-size now ns tell in
@@ -140,7 +150,8 @@ module _ {M : Type 0} (k : MasterModel M) (start : MachineEnd M Cause) (said : S
 
   -- a part of what a turn sends was sent
   pub going-part : (e new : End M) (p : ℕ) (before out bytes : List ℕ) (now after : List (Option Wire)) (f : TurnFault)
-      → GoesOn k e new before out (Ok (turn.Sent p)) → bytes ≡ drop (length before) out → SendsOn now after p bytes (Err f)
+      → GoesOn k e new before out (Ok (turn.Sent p)) → bytes ≡ drop (length before) out
+      → SendsOn now after p bytes (Err f)
       → Going k start said e now → IsPartly k start after
   going-part e new p before out bytes now after f goes is sends (ns, tell, g) =
       let later : Streams = λ q. sent_on ns q ++ only_at p bytes q in
@@ -172,7 +183,8 @@ module _ {M : Type 0} (k : MasterModel M) (start : MachineEnd M Cause) (said : S
   )
 
   -- an end that can take no more turns, and ends so
-  pub driven-by : (e : End M) (r : Result Unit TurnFault) (ns : List Wire) (g : IsGoing k start said e ns) → IsAtRest k e
+  pub driven-by : (e : End M) (r : Result Unit TurnFault) (ns : List Wire) (g : IsGoing k start said e ns)
+      → IsAtRest k e
       → EndsSo k g.run.hub (received_on ns) r → IsAllRead said (received_on ns) (sent_on ns) r
       → IsDriven k start said e.clear r ns
   driven-by e r ns g rests ends all = record {
@@ -196,13 +208,14 @@ module _ {M : Type 0} (k : MasterModel M) (start : MachineEnd M Cause) (said : S
   fault-of e f h kept core = sym (ap (λ (c : MachineEnd M Cause). c.fault) core) ∙ ap (option_map port_cause) kept
 
   pub faulted : (e : End M) (p : ℕ) (x : EndFault PacketFault) (taken : ℕ) (held : List ℕ) (now : List (Option Wire))
-      → e.kept ≡ Some (record { port = p; fault = x }) → IsBlamedAt taken held x → IsAtRest k e → Going k start said e now
+      → e.kept ≡ Some (record { port = p; fault = x }) → IsBlamedAt taken held x → IsAtRest k e
+      → Going k start said e now
       → Leaves k start said e.clear (Err (turn_fault.Port (record { port = p; fault = x }))) now
   faulted e p (fault.Malformed f) taken held now kept blamed rests (ns, tell, g) = (
     ns,
     tell,
     driven-by e _ ns g rests
-    (fault-of e _ g.run.hub kept g.run.core, subst (IsPlacedAt (received_on ns)) kept g.run.placed) tt,
+        (fault-of e _ g.run.hub kept g.run.core, subst (IsPlacedAt (received_on ns)) kept g.run.placed) tt,
   )
   faulted e p (fault.Session f) taken held now kept blamed rests (ns, tell, g) =
       (ns, tell, driven-by e _ ns g rests (fault-of e _ g.run.hub kept g.run.core) tt)
@@ -251,15 +264,18 @@ module _ {M : Type 0} (k : MasterModel M) (start : MachineEnd M Cause) (said : S
   sent-is (turn.NotYet q) p is = absurd (none-some p is)
   sent-is turn.Done p is = absurd (none-some p is)
 
-  pub turn-sent : (e new : End M) (before out bytes : List ℕ) (now after : List (Option Wire)) (t : Turn) (p : ℕ) → port_of t ≡ Some p
-      → length now ≡ length e.ports → IsAtFront e (Ok t) → GoesOn k e new before out (Ok t) → bytes ≡ drop (length before) out
+  pub turn-sent : (e new : End M) (before out bytes : List ℕ) (now after : List (Option Wire)) (t : Turn) (p : ℕ)
+      → port_of t ≡ Some p
+      → length now ≡ length e.ports → IsAtFront e (Ok t) → GoesOn k e new before out (Ok t)
+      → bytes ≡ drop (length before) out
       → SendsOn now after p bytes (Ok tt) → Going k start said e now → Going k start said new after
   turn-sent e new before out bytes now after t p port size front goes is sends going =
       let there : p < length e.ports = subst (λ t. IsAtFront e (Ok t)) (sent-is t p port) front in
       going-sent e new p before out bytes now after (omega (arith, there, size))
       (subst (λ t. GoesOn k e new before out (Ok t)) (sent-is t p port) goes) is sends going
 
-  pub turn-part : (e new : End M) (before out bytes : List ℕ) (now after : List (Option Wire)) (t : Turn) (p : ℕ) (f : TurnFault)
+  pub turn-part : (e new : End M) (before out bytes : List ℕ) (now after : List (Option Wire)) (t : Turn) (p : ℕ) (f
+      : TurnFault)
       → port_of t ≡ Some p → GoesOn k e new before out (Ok t) → bytes ≡ drop (length before) out
       → SendsOn now after p bytes (Err f) → OnlyLink {A = Unit {0}} (Err f) → Going k start said e now
       → Leaves k start said new.clear (Err f) after
@@ -282,7 +298,10 @@ module _ {M : Type 0} (k : MasterModel M) (start : MachineEnd M Cause) (said : S
   -- the stream of an awaited port ended
   pub finished : (e : End M) (p : ℕ) (x : EndFault PacketFault) (now : List (Option Wire)) → p < length e.ports
       → machine_outlook k (core_of e) ≡ HubWaits p → e.kept ≡ None → IsAtRest k e → FinishesBy e p x
-      → Tells now (IsAtEnd k start said p e) → Leaves k start said e.clear (Err (turn_fault.Port (record { port = p; fault = x }))) now
+      → Tells now (IsAtEnd k start said p e) → Leaves k start said e.clear (Err (turn_fault.Port (record {
+        port = p;
+        fault = x;
+      }))) now
   finished e p (fault.Ended n) now there waits kept rests finishes (ns, tell, at) =
       let run = at.going.run in
       let within : p < length ns = subst (λ n. p < n) run.size there in (
@@ -319,7 +338,8 @@ module _ {M : Type 0} (k : MasterModel M) (start : MachineEnd M Cause) (said : S
   same-wire : (w : Wire) → record w { received = w.received ++ [] } ≡ w
   same-wire w = ap (λ r. record w { received = r }) (append-nil w.received)
 
-  pub going-ended : (e : End M) (p : ℕ) (was after : Option Wire) (now : List (Option Wire)) → slice_get now p ≡ Some was
+  pub going-ended : (e : End M) (p : ℕ) (was after : Option Wire) (now : List (Option Wire))
+      → slice_get now p ≡ Some was
       → CameAll was after [] → Going k start said e now → Tells (set now p after) (IsAtEnd k start said p e)
   going-ended e p was after now there came (ns, tell, g) =
       let at = tell-at now ns p was tell there in
@@ -336,7 +356,8 @@ module _ {M : Type 0} (k : MasterModel M) (start : MachineEnd M Cause) (said : S
         },
       )
 
-  pub going-partly : (e : End M) (p : ℕ) (was after : Option Wire) (now : List (Option Wire)) → slice_get now p ≡ Some was
+  pub going-partly : (e : End M) (p : ℕ) (was after : Option Wire) (now : List (Option Wire))
+      → slice_get now p ≡ Some was
       → CamePartly was after [] → Going k start said e now → IsPartly k start (set now p after)
   going-partly e p was after now there came (ns, tell, g) =
       let part = still e now (ns, tell, g) in
@@ -347,15 +368,18 @@ module _ {M : Type 0} (k : MasterModel M) (start : MachineEnd M Cause) (said : S
         turns = part.turns;
         hub = part.hub;
         sent = part.sent;
-        run = subst (λ n. IsRun k start n part.received part.turns part.hub part.sent) (sym (length-set now p after)) part.run;
+        run = subst (λ n. IsRun k start n part.received part.turns part.hub part.sent) (sym (length-set now p after))
+            part.run;
         links = λ q n is. all-set
             (λ q o. (n : Wire) → o ≡ Some (Some n) → (n.received ≡ part.received q) × IsPrefix n.sent (part.sent q))
             now p after was there
-            (λ n is. part.links p n (there ∙ ap (λ w. Some w) (at.1 ∙ partly at.0 n after came_as (same_Some after (Some n) is))))
+            (λ n is. part.links p n (there ∙ ap (λ w. Some w) (at.1
+            ∙ partly at.0 n after came_as (same_Some after (Some n) is))))
             (λ q n is. part.links q n is) q n is;
       }
     where
-      partly : (w n : Wire) (o : Option Wire) → CamePartly (Some w) o [] → o ≡ Some n → ◌≡◌ {A = Option Wire} (Some w) (Some n)
+      partly : (w n : Wire) (o : Option Wire) → CamePartly (Some w) o [] → o ≡ Some n
+          → ◌≡◌ {A = Option Wire} (Some w) (Some n)
       partly w n None came is = absurd (none-some n is)
       partly w n (Some v) came is = ap (λ w. Some w) (sym (same-wire w) ∙ sym came) ∙ is
 
@@ -363,24 +387,30 @@ module _ {M : Type 0} (k : MasterModel M) (plan : Plan) (m : M) (n : ℕ) (said 
   abbrev start : MachineEnd M Cause
   start = machine_start Cause m n plan
 
-  read-in-time : (ns : List Wire) (p : ℕ) (w : Wire) (piece : List ℕ) (e : End M) → n ≡ length ns → slice_get ns p ≡ Some w
+  read-in-time : (ns : List Wire) (p : ℕ) (w : Wire) (piece : List ℕ) (e : End M) → n ≡ length ns
+      → slice_get ns p ≡ Some w
       → IsWire (record w { received = w.received ++ piece }) → IsGoing k start said e ns
       → IsInTime k start (length ns) said (received_on (set ns p (record w { received = w.received ++ piece })))
   read-in-time ns p w piece e size there wire g x turns h sent run rests fixed =
       let came = record w { received = w.received ++ piece } in
       let run_n = subst (λ i. IsRun k start i x turns h sent) (sym size) run in
-      let mine = subst (λ i. IsRun k start i (received_on ns) g.run.turns g.run.hub (sent_on ns)) (sym size) g.run.run in
+      let mine = subst (λ i. IsRun k start i (received_on ns) g.run.turns g.run.hub (sent_on ns)) (sym size)
+      g.run.run in
       let in_time = g.in_time x turns h sent run rests fixed in
-      let less = sends-less k plan n m (received_on ns) x g.run.turns turns g.run.hub h (sent_on ns) sent in_time mine run_n rests in
+      let less = sends-less k plan n m (received_on ns) x g.run.turns turns g.run.hub h (sent_on ns) sent in_time
+      mine run_n rests in
       let says : w.said w.sent ≡ said p (sent_on ns p) =
-      ap w.said (sent-at ns p w there) ∙ ap (λ (f : List ℕ → List ℕ). f (sent_on ns p)) (said-at ns p w there ∙ g.same p) in
+      ap w.said (sent-at ns p w there) ∙ ap (λ (f : List ℕ → List ℕ). f (sent_on ns p)) (said-at ns p w there
+      ∙ g.same p) in
       let here : IsPrefix came.received (x p) =
       subst (IsPrefix came.received) (sym (fixed p))
-      (IsPrefix-trans came.received (said p (sent_on ns p)) (said p (sent p)) (subst (IsPrefix came.received) says wire.within)
+      (IsPrefix-trans came.received (said p (sent_on ns p)) (said p (sent p)) (subst (IsPrefix came.received) says
+      wire.within)
       (g.telling p (sent_on ns p) (sent p) (less p))) in
       all-set (λ q o. IsPrefix (received_of o) (x q)) ns p came w there here in_time
 
-  pub going-read : (e new : End M) (p : ℕ) (piece : List ℕ) (was after : Option Wire) (now : List (Option Wire)) → n ≡ length now
+  pub going-read : (e new : End M) (p : ℕ) (piece : List ℕ) (was after : Option Wire) (now : List (Option Wire))
+      → n ≡ length now
       → slice_get now p ≡ Some was → Came was after piece → IfSome after IsWire → RunsOn k p piece e new
       → Going k start said e now → Going k start said new (set now p after)
   going-read e new p piece was after now count there came wire runs (ns, tell, g) =
@@ -399,15 +429,18 @@ module _ {M : Type 0} (k : MasterModel M) (plan : Plan) (m : M) (n : ℕ) (said 
           same = λ q. read-said ns p w piece here q ∙ g.same q;
           run = run-as k start said (length ns) (length (set ns p next)) _ (received_on (set ns p next)) (sent_on ns)
               (sent_on (set ns p next)) new (sym size) (λ q. refl) (λ q. sym (read-sent ns p w piece here q)) run;
-          in_time = in-time-as k start said (length ns) (length (set ns p next)) _ (received_on (set ns p next)) (sym size)
+          in_time = in-time-as k start said (length ns) (length (set ns p next)) _ (received_on (set ns p next)) (sym
+              size)
               (λ q. refl)
-              (read-in-time ns p w piece e (count ∙ tell-size now ns tell) here (subst (λ o. IfSome o IsWire) is wire) g);
+              (read-in-time ns p w piece e (count ∙ tell-size now ns tell) here (subst (λ o. IfSome o IsWire) is
+              wire) g);
         },
       )
 
   -- What one read leaves.
 
-  pub read-goes : (e new : End M) (p : ℕ) (was after : Option Wire) (now : List (Option Wire)) (r : Pulled) → n ≡ length now
+  pub read-goes : (e new : End M) (p : ℕ) (was after : Option Wire) (now : List (Option Wire)) (r : Pulled)
+      → n ≡ length now
       → slice_get now p ≡ Some was → IfSome after IsWire → e.kept ≡ None → Pulls was after p e new (Ok r)
       → Going k start said e now → ReadsOn k start said p new (set now p after) (Ok r)
   read-goes e new p was after now pulled.More count there wire none pulls going =
@@ -417,7 +450,8 @@ module _ {M : Type 0} (k : MasterModel M) (plan : Plan) (m : M) (n : ℕ) (said 
       (going-ended k start said e p was after now there pulls.0 going)
 
   pub read-fails : (e new : End M) (p : ℕ) (was after : Option Wire) (now : List (Option Wire)) (x : ReceiveFault)
-      → slice_get now p ≡ Some was → Pulls was after p e new (Err x) → Going k start said e now → IsPartly k start (set now p after)
+      → slice_get now p ≡ Some was → Pulls was after p e new (Err x) → Going k start said e now
+      → IsPartly k start (set now p after)
   read-fails e new p was after now (receive.Link count) there pulls going =
       going-partly k start said e p was after now there pulls.0 going
   read-fails e new p was after now receive.NoMemory there pulls going =
@@ -427,18 +461,24 @@ module _ {M : Type 0} (k : MasterModel M) (plan : Plan) (m : M) (n : ℕ) (said 
 
 -- The same of a list of links.
 
-module _ {M X : Type 0} (k : MasterModel M) (plan : Plan) (m : M) (said : Said) (told : X → Option Wire) (ls : List X) (p : ℕ) (d l : X)
-    (within : p < length ls) (e new : End M) (going : Going k (machine_start Cause m (length ls) plan) said e (map told ls)) where
-  pub link-reads : (r : Pulled) → IfSome (told l) IsWire → e.kept ≡ None → Pulls (told (get_or ls p d)) (told l) p e new (Ok r)
+module _ {M X : Type 0} (k : MasterModel M) (plan : Plan) (m : M) (said : Said) (told : X
+    → Option Wire) (ls : List X) (p : ℕ) (d l : X)
+    (within : p < length ls) (e new : End M) (going : Going k (machine_start Cause m (length ls) plan) said e (map
+    told ls)) where
+  pub link-reads : (r : Pulled) → IfSome (told l) IsWire → e.kept ≡ None
+      → Pulls (told (get_or ls p d)) (told l) p e new (Ok r)
       → ReadsOn k (machine_start Cause m (length ls) plan) said p new (map told (set ls p l)) (Ok r)
   link-reads r wire none pulls =
-      subst (λ now. ReadsOn k (machine_start Cause m (length ls) plan) said p new now (Ok r)) (sym (told-set told ls p d l within))
-      (read-goes k plan m (length ls) said e new p (told (get_or ls p d)) (told l) (map told ls) r (sym (length-map ls told))
+      subst (λ now. ReadsOn k (machine_start Cause m (length ls) plan) said p new now (Ok r)) (sym (told-set told ls
+      p d l within))
+      (read-goes k plan m (length ls) said e new p (told (get_or ls p d)) (told l) (map told ls) r (sym (length-map
+      ls told))
       (told-there told ls p d l within) wire none pulls going)
 
   pub link-fails : (x : ReceiveFault) → Pulls (told (get_or ls p d)) (told l) p e new (Err x)
       → IsPartly k (machine_start Cause m (length ls) plan) (map told (set ls p l))
   link-fails x pulls =
       subst (IsPartly k (machine_start Cause m (length ls) plan)) (sym (told-set told ls p d l within))
-      (read-fails k plan m (length ls) said e new p (told (get_or ls p d)) (told l) (map told ls) x (told-there told ls p d l within)
+      (read-fails k plan m (length ls) said e new p (told (get_or ls p d)) (told l) (map told ls) x (told-there told
+      ls p d l within)
       pulls going)

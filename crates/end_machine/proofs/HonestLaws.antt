@@ -1,5 +1,6 @@
 -- Over honest links driving ends as the direct machine does.
-use Rattle.std.proofs.Common.{◌≡◌, ℕ, zero, suc, List, ◌++◌, drop, length, get_or, map, refl, sym, ap, ◌∙◌, subst, Result, Ok, Err}
+use Rattle.std.proofs.Common.{◌≡◌, ℕ, zero, suc, List, ◌++◌, drop, length, get_or, map, refl, sym, ap, ◌∙◌, subst}
+use Rattle.std.proofs.Common.{Result, Ok, Err}
 use Rattle.std.specs.Prelude.{Option, Some, None, IfSome, slice_get}
 use Rattle.std.proofs.lemmas.Option.{none-some}
 use Rattle.std.proofs.lemmas.List.{length-map}
@@ -81,9 +82,12 @@ module _ {M S : Type 0} (k : MasterModel M) (d : DeviceModel S) where
         over : IsDone k d packet_codec plan m xs talk.hub talk.sent
             × ((p : ℕ) → talk.received p ≡ back_at k d packet_codec plan m xs p (slice_get xs p))
         over =
-            (over_links k d packet_codec plan device master codec-laws m xs fit said honest).talk talk.rounds talk.received
-            (talk-same (machine_start Cause m (length xs) plan) (length xs) said talk.rounds talk.received talk.talk) talk.turns talk.hub
-            talk.sent (run-same (machine_start Cause m (length xs) plan) (length xs) talk.received talk.turns talk.hub talk.sent talk.run)
+            (over_links k d packet_codec plan device master codec-laws m xs fit said honest).talk talk.rounds
+            talk.received
+            (talk-same (machine_start Cause m (length xs) plan) (length xs) said talk.rounds talk.received talk.talk)
+            talk.turns talk.hub
+            talk.sent (run-same (machine_start Cause m (length xs) plan) (length xs) talk.received talk.turns
+            talk.hub talk.sent talk.run)
             (sym (hub-same talk.hub talk.received) ∙ talk.rests) talk.fixed
 
         done : IsDone k d packet_codec plan m xs talk.hub talk.sent
@@ -119,12 +123,16 @@ module _ {M S : Type 0} (k : MasterModel M) (d : DeviceModel S) where
     pub ends-directly : (said : Said) (e : MachineEnd M Cause) (r : Result Unit TurnFault)
         → ByTalk k (machine_start Cause m (length xs) plan) (length xs) said e r → IsDevice d → IsMaster k
         → Fit k d plan m xs → IsHonest k d packet_codec plan m xs said → EndsDirectly k d plan m xs e r
-    ends-directly said e (Ok u) talk device master fit honest = done-directly said e (Ok u) talk device master fit honest
+    ends-directly said e (Ok u) talk device master fit honest = done-directly said e (Ok u) talk device master fit
+        honest
     ends-directly said e (Err turn_fault.NoMemory) talk device master fit honest = tt
     ends-directly said e (Err (turn_fault.Port f)) talk device master fit honest = by f.port f.fault talk
       where
         by : (p : ℕ) (x : EndFault PacketFault)
-            → ByTalk k (machine_start Cause m (length xs) plan) (length xs) said e (Err (turn_fault.Port (record { port = p; fault = x })))
+            → ByTalk k (machine_start Cause m (length xs) plan) (length xs) said e (Err (turn_fault.Port (record {
+              port = p;
+              fault = x;
+            })))
             → EndsDirectly k d plan m xs e (Err (turn_fault.Port (record { port = p; fault = x })))
         by p (fault.Link n) talk = tt
         by p (fault.Ended n) talk = done-directly said e _ talk device master fit honest
@@ -138,8 +146,10 @@ module _ {M S : Type 0} (k : MasterModel M) (d : DeviceModel S) where
 
 -- What drive promises of lists of links.
 
-module _ {M X : Type 0} (k : MasterModel M) (plan : Plan) (m : M) (told : X → Option Wire) (law : (l : X) → IfSome (told l) IsWire)
-    (ls ns : List X) (size : length ns ≡ length ls) (start : MachineEnd M Cause) (ws : List Wire) (tell : AllTell (map told ls) ws)
+module _ {M X : Type 0} (k : MasterModel M) (plan : Plan) (m : M) (told : X → Option Wire) (law : (l : X)
+    → IfSome (told l) IsWire)
+    (ls ns : List X) (size : length ns ≡ length ls) (start : MachineEnd M Cause) (ws : List Wire) (tell : AllTell
+    (map told ls) ws)
     (is : start ≡ machine_start Cause m (length ls) plan) where
   count : length (map told ns) ≡ length ws
   count = length-map ns told ∙ size ∙ sym (length-map ls told) ∙ tell-size (map told ls) ws tell
@@ -151,14 +161,18 @@ module _ {M X : Type 0} (k : MasterModel M) (plan : Plan) (m : M) (told : X → 
       → ByTalk k start (length ws) (said_on ws) e r
   drives-talk e r left =
       let now = length-map ns told ∙ size in
-      let here : start ≡ machine_start Cause m (length (map told ns)) plan = is ∙ ap (λ n. machine_start Cause m n plan) (sym now) in
+      let here : start ≡ machine_start Cause m (length (map told ns)) plan = is
+      ∙ ap (λ n. machine_start Cause m n plan) (sym now) in
       subst (λ s. ByTalk k s (length ws) (said_on ws) e r) (sym here)
       (subst (λ n. ByTalk k (machine_start Cause m (length (map told ns)) plan) n (said_on ws) e r) count
-      (leaves-talk k plan m (said_on ws) e r (map told ns) (telling-on ws given) (λ p w here. wires-at told law ns p w here)
+      (leaves-talk k plan m (said_on ws) e r (map told ns) (telling-on ws given) (λ p w here. wires-at told law ns p
+      w here)
       (subst (λ s. Leaves k s (said_on ws) e r (map told ns)) here left)))
 
-  pub drives-directly : {S : Type 0} (d : DeviceModel S) (xs : List (Side × S)) (e : MachineEnd M Cause) (r : Result Unit TurnFault)
-      → Leaves k start (said_on ws) e r (map told ns) → length xs ≡ length ws → IsDevice d → IsMaster k → Fit k d plan m xs
+  pub drives-directly : {S : Type 0} (d : DeviceModel S) (xs : List (Side × S)) (e : MachineEnd M Cause) (r : Result
+      Unit TurnFault)
+      → Leaves k start (said_on ws) e r (map told ns) → length xs ≡ length ws → IsDevice d → IsMaster k
+      → Fit k d plan m xs
       → IsHonest k d packet_codec plan m xs (said_on ws) → EndsDirectly k d plan m xs e r
   drives-directly d xs e r left fits device master fit honest =
       let ports : length ls ≡ length xs = sym (length-map ls told) ∙ tell-size (map told ls) ws tell ∙ sym fits in

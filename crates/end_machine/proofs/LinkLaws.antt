@@ -1,5 +1,6 @@
 -- Lists of links of which the one of a port was called.
-use Rattle.std.proofs.Common.{◌≡◌, ℕ, zero, suc, ◌<◌, Bool, true, false, List, [], ◌∷◌, ◌++◌, length, get_or, map, set, refl, sym, ap, ◌∙◌, subst, Result, Ok, Err}
+use Rattle.std.proofs.Common.{◌≡◌, ℕ, zero, suc, ◌<◌, Bool, true, false, List, [], ◌∷◌, ◌++◌, length, get_or, map}
+use Rattle.std.proofs.Common.{set, refl, sym, ap, ◌∙◌, subst, Result, Ok, Err}
 use Rattle.std.specs.Prelude.{Option, Some, None, IfSome, if◌then◌else◌, nat_eq, slice_get}
 use Rattle.std.proofs.lemmas.List.{get_or-set_other, get_or-set_same, length-map, length-set, map-set}
 use Rattle.std.proofs.lemmas.Option.{get_or_from_slice_get, none-some, same_Some, slice_get-get_or}
@@ -49,7 +50,8 @@ module _ {X : Type 0} (count : X → ℕ) (ls : List X) (p : ℕ) (d l : X) (wit
           let same : q ≡ p = sym (equal q p is) in
           let was : get_or (map count ls) q 0 ≡ count (get_or ls p d) =
           ap (λ i. get_or (map count ls) i 0) same
-          ∙ get_or_from_slice_get (map count ls) p (count (get_or ls p d)) 0 (mapped_get count ls p (get_or ls p d) there) in
+          ∙ get_or_from_slice_get (map count ls) p (count (get_or ls p d)) 0 (mapped_get count ls p (get_or ls p d)
+          there) in
           let now : get_or (map count (set ls p l)) q 0 ≡ count l =
           ap (λ i. get_or (map count (set ls p l)) i 0) same ∙ ap (λ xs. get_or xs p 0) (map-set count ls p l)
           ∙ get_or-set_same (map count ls) p (count l) 0 (subst (λ n. p < n) (sym (length-map ls count)) within) in
@@ -61,11 +63,14 @@ module _ {X : Type 0} (count : X → ℕ) (ls : List X) (p : ℕ) (d l : X) (wit
 
 -- what a read that failed did to the count
 
-pub read-rise : (before now n : ℕ) (x : ReceiveFault) → x ≡ receive.Link n → ReceiveCounts {A = Pulled} before now (Err x)
+pub read-rise : (before now n : ℕ) (x : ReceiveFault) → x ≡ receive.Link n
+    → ReceiveCounts {A = Pulled} before now (Err x)
     → Rises before now × (n ≡ now)
-read-rise before now n x is counts = subst (λ (x : ReceiveFault). ReceiveCounts {A = Pulled} before now (Err x)) is counts
+read-rise before now n x is counts = subst (λ (x : ReceiveFault). ReceiveCounts {A = Pulled} before now (Err x)) is
+    counts
 
-pub read-same : (before now : ℕ) (x : ReceiveFault) → x ≡ receive.NoMemory → ReceiveCounts {A = Pulled} before now (Err x) → now ≡ before
+pub read-same : (before now : ℕ) (x : ReceiveFault) → x ≡ receive.NoMemory
+    → ReceiveCounts {A = Pulled} before now (Err x) → now ≡ before
 read-same before now x is counts = subst (λ (x : ReceiveFault). ReceiveCounts {A = Pulled} before now (Err x)) is counts
 
 -- What links tell.
@@ -81,9 +86,12 @@ module _ {X : Type 0} (told : X → Option Wire) (ls : List X) (p : ℕ) (d l : 
       → SendsOn (map told ls) (map told (set ls p l)) p bytes (Ok tt)
   sends-all bytes sends ws tell =
       let at = tell-at (map told ls) ws p (told (get_or ls p d)) tell told-there in
-      let is : told l ≡ Some (record at.0 { sent = at.0.sent ++ bytes }) = subst (λ o. Sends o (told l) bytes (Ok tt)) at.1 sends in
+      let is : told l ≡ Some (record at.0 { sent = at.0.sent ++ bytes }) = subst (λ o. Sends o (told l) bytes (Ok
+      tt)) at.1 sends in
       subst (λ o. AllTell (map told (set ls p l)) (with_sent ws p bytes o)) (sym at.2)
-      (told-set ∙ ap (set (map told ls) p) is ∙ tell-set (map told ls) ws p (record at.0 { sent = at.0.sent ++ bytes }) tell)
+      (told-set ∙ ap (set (map told ls) p) is ∙ tell-set (map told ls) ws p (record at.0 {
+        sent = at.0.sent ++ bytes;
+      }) tell)
 
   sent-part : (bytes : List ℕ) (x : SendFault) (ws : List Wire) (w : Wire) (o : Option Wire) → slice_get ws p ≡ Some w
       → Sends (Some w) o bytes (Err x) → (n : Wire) → o ≡ Some n
@@ -95,8 +103,8 @@ module _ {X : Type 0} (told : X → Option Wire) (ls : List X) (p : ℕ) (d l : 
       let here : only_at p bytes p ≡ bytes = ap (λ b. if b then bytes else []) (itself p) in (
         ap (λ (w : Wire). w.received) (sym same) ∙ sym (ap received_of there),
         subst (λ s. IsPrefix s (sent_on ws p ++ only_at p bytes p)) (ap (λ (w : Wire). w.sent) same)
-        (subst (λ a. IsPrefix (w.sent ++ part) (a ++ only_at p bytes p)) (sym (ap sent_of there))
-        (subst (λ b. IsPrefix (w.sent ++ part) (w.sent ++ b)) (sym here) (IsPrefix-behind w.sent part bytes sends.1))),
+            (subst (λ a. IsPrefix (w.sent ++ part) (a ++ only_at p bytes p)) (sym (ap sent_of there))
+            (subst (λ b. IsPrefix (w.sent ++ part) (w.sent ++ b)) (sym here) (IsPrefix-behind w.sent part bytes sends.1))),
       )
 
   unsent : (bytes : List ℕ) (ws : List Wire) → AllTell (map told ls) ws → (q : ℕ) (n : Wire)
@@ -118,7 +126,7 @@ module _ {X : Type 0} (told : X → Option Wire) (ls : List X) (p : ℕ) (d l : 
         size = ap length told-set ∙ length-set (map told ls) p (told l) ∙ tell-size (map told ls) ws tell;
         links = λ q n is. all-set
             (λ q o. (n : Wire) → o ≡ Some (Some n)
-                → (n.received ≡ received_on ws q) × IsPrefix n.sent (sent_on ws q ++ only_at p bytes q))
+            → (n.received ≡ received_on ws q) × IsPrefix n.sent (sent_on ws q ++ only_at p bytes q))
             (map told ls) p (told l) (told (get_or ls p d)) told-there
             (λ n is. sent-part bytes x ws at.0 (told l) at.2 sent n (same_Some (told l) (Some n) is))
             (λ q n is. unsent bytes ws tell q n is) q n (ap (λ xs. slice_get xs q) (sym told-set) ∙ is);

@@ -45,7 +45,8 @@ module _ {M : Type 0} (k : MasterModel M) (plan : Plan) (n : ℕ) where
   pub start-holds : (m : M) → Holds (machine_start Cause m n plan)
   start-holds m = talks.fresh_holds k no_device packet_codec plan n m
 
-  pub acts-on : (h : H) → Holds h → (next : H) (sends : Option (ℕ × Decoded Cause)) → machine_outlook k h ≡ HubActs next sends
+  pub acts-on : (h : H) → Holds h → (next : H) (sends : Option (ℕ × Decoded Cause))
+      → machine_outlook k h ≡ HubActs next sends
       → Holds next × (left next < left h)
   acts-on h holds next sends is = talks.acted k no_device packet_codec plan n h holds next sends is
 
@@ -60,16 +61,21 @@ module _ {M : Type 0} (k : MasterModel M) (plan : Plan) (n : ℕ) where
 
   -- a turn keeps it
 
-  took-holds : (s : Taking M) (r : Taking M × Option (ℕ × List ℕ)) (p : ℕ) (o : Option (Decoded Cause × ℕ)) → Holds s.core
-      → machine_outlook k s.core ≡ HubWaits p → hub_after_take (machine_alone k packet_codec) s p o ≡ Some r → Holds r.0.core
+  took-holds : (s : Taking M) (r : Taking M × Option (ℕ × List ℕ)) (p : ℕ) (o : Option (Decoded Cause × ℕ))
+      → Holds s.core
+      → machine_outlook k s.core ≡ HubWaits p → hub_after_take (machine_alone k packet_codec) s p o ≡ Some r
+      → Holds r.0.core
   took-holds s r p None holds is t = absurd (none-some r t)
   took-holds s r p (Some m) holds is t =
-      subst (λ (v : Taking M × Option (ℕ × List ℕ)). Holds v.0.core) (same_Some _ r t) (takes-on s.core holds p is m.0).0
+      subst (λ (v : Taking M × Option (ℕ × List ℕ)). Holds v.0.core) (same_Some _ r t) (takes-on s.core holds p is
+      m.0).0
 
-  turn-holds : (x : Streams) (s : Taking M) (r : Taking M × Option (ℕ × List ℕ)) (v : HubOutlook H (Decoded Cause)) → Holds s.core
+  turn-holds : (x : Streams) (s : Taking M) (r : Taking M × Option (ℕ × List ℕ)) (v : HubOutlook H (Decoded Cause))
+      → Holds s.core
       → machine_outlook k s.core ≡ v → hub_turn_by (machine_alone k packet_codec) s x v ≡ Some r → Holds r.0.core
   turn-holds x s r (HubActs next sends) holds is t =
-      subst (λ (v : Taking M × Option (ℕ × List ℕ)). Holds v.0.core) (same_Some _ r t) (acts-on s.core holds next sends is).0
+      subst (λ (v : Taking M × Option (ℕ × List ℕ)). Holds v.0.core) (same_Some _ r t) (acts-on s.core holds next
+      sends is).0
   turn-holds x s r (HubWaits p) holds is t = took-holds s r p _ holds is t
   turn-holds x s r HubHalts holds is t = absurd (none-some r t)
 

@@ -1,5 +1,6 @@
 -- The loop of drive: how it begins, what each turn and each read keep, and how it ends.
-use Rattle.std.proofs.Common.{◌≡◌, ℕ, zero, suc, ◌<◌, ◌≤◌, List, [], ◌∷◌, length, get_or, map, replicate, refl, sym, ap, ◌∙◌, subst, arith, All, Result, Ok, Err}
+use Rattle.std.proofs.Common.{◌≡◌, ℕ, zero, suc, ◌<◌, ◌≤◌, List, [], ◌∷◌, length, get_or, map, replicate, refl, sym}
+use Rattle.std.proofs.Common.{ap, ◌∙◌, subst, arith, All, Result, Ok, Err}
 use Rattle.std.specs.Prelude.{Option, Some, None, IfSome, slice_get}
 use Rattle.std.proofs.lemmas.List.{length-map, length-replicate}
 use Rattle.std.proofs.lemmas.Option.{none-some, same_Some}
@@ -28,18 +29,21 @@ use Rattle.end_machine.specs.Going.{Fed, FinishesBy, Going, IsAtEnd, IsGoing, Re
 use Rattle.end_machine.proofs.Measures.{Holds, start-holds, waits-there}
 use Rattle.end_machine.proofs.WireLaws.{tell-size, tell-some}
 use Rattle.end_machine.proofs.GoingLaws.{done-leaves, finished, run-as}
-use Rattle.end_machine.proofs.StepLaws.{need-stops, need-waits, read-less, remaining, step-moves, step-stops, step-waits, waits-outlook}
+use Rattle.end_machine.proofs.StepLaws.{need-stops, need-waits, read-less, remaining, step-moves, step-stops}
+use Rattle.end_machine.proofs.StepLaws.{step-waits, waits-outlook}
 use Rattle.end_machine.proofs.DriveLaws.{telling-on}
 
 -- each of the wires is one
-pub wires-at : {X : Type 0} (told : X → Option Wire) (law : (l : X) → IfSome (told l) IsWire) (ls : List X) (p : ℕ) (w : Wire)
+pub wires-at : {X : Type 0} (told : X → Option Wire) (law : (l : X)
+    → IfSome (told l) IsWire) (ls : List X) (p : ℕ) (w : Wire)
     → slice_get (map told ls) p ≡ Some (Some w) → IsWire w
 wires-at told law [] p w e = absurd (none-some (Some w) e)
 wires-at told law (l ∷ ls) zero w e = subst (λ o. IfSome o IsWire) (same_Some (told l) (Some w) e) (law l)
 wires-at told law (l ∷ ls) (suc p) w e = wires-at told law ls p w e
 
 -- no count moved
-same-list : (xs ys : List ℕ) → length xs ≡ length ys → ((q : ℕ) → q < length ys → get_or xs q 0 ≡ get_or ys q 0) → xs ≡ ys
+same-list : (xs ys : List ℕ) → length xs ≡ length ys → ((q : ℕ) → q < length ys → get_or xs q 0 ≡ get_or ys q 0)
+    → xs ≡ ys
 same-list [] [] size each = refl
 same-list [] (y ∷ ys) size each = absurd (omega (arith, size))
 same-list (x ∷ xs) [] size each = absurd (omega (arith, size))
@@ -61,25 +65,30 @@ module _ {M : Type 0} (k : MasterModel M) (plan : Plan) (m : M) (n : ℕ) where
 
   -- What a call says of links of so many ports.
 
-  pub step-goes : {A : Type 0} (i : ℕ) (said : Said) (e new : End M) (now after : List (Option Wire)) (r : Result A TurnFault) → i ≡ n
+  pub step-goes : {A : Type 0} (i : ℕ) (said : Said) (e new : End M) (now after : List (Option Wire)) (r : Result A
+      TurnFault) → i ≡ n
       → ((m : M) (plan : Plan) (said : Said) → Going k (machine_start Cause m i plan) said e now
       → Settles {A = A} k (machine_start Cause m i plan) said new after r)
       → Going k start said e now → Settles {A = A} k start said new after r
   step-goes {A} i said e new now after r size goes =
-      subst (λ i. Going k (machine_start Cause m i plan) said e now → Settles {A = A} k (machine_start Cause m i plan) said new after r)
+      subst (λ i. Going k (machine_start Cause m i plan) said e now
+      → Settles {A = A} k (machine_start Cause m i plan) said new after r)
       size (goes m plan said)
 
-  pub read-on-goes : (i p : ℕ) (said : Said) (e new : End M) (now after : List (Option Wire)) (r : Result Pulled TurnFault) → i ≡ n
+  pub read-on-goes : (i p : ℕ) (said : Said) (e new : End M) (now after : List (Option Wire)) (r : Result Pulled
+      TurnFault) → i ≡ n
       → ((m : M) (plan : Plan) (said : Said) → Going k (machine_start Cause m i plan) said e now
       → ReadsOn k (machine_start Cause m i plan) said p new after r)
       → Going k start said e now → ReadsOn k start said p new after r
   read-on-goes i p said e new now after r size goes =
-      subst (λ i. Going k (machine_start Cause m i plan) said e now → ReadsOn k (machine_start Cause m i plan) said p new after r)
+      subst (λ i. Going k (machine_start Cause m i plan) said e now
+      → ReadsOn k (machine_start Cause m i plan) said p new after r)
       size (goes m plan said)
 
   -- A fresh end on fresh links.
 
-  nothing-sent : (ws : List Wire) → ((p : ℕ) (w : Wire) → slice_get ws p ≡ Some w → IsFresh w) → (p : ℕ) → [] ≡ sent_on ws p
+  nothing-sent : (ws : List Wire) → ((p : ℕ) (w : Wire) → slice_get ws p ≡ Some w → IsFresh w) → (p : ℕ)
+      → [] ≡ sent_on ws p
   nothing-sent ws unused p = by (slice_get ws p) refl
     where
       by : (o : Option Wire) → slice_get ws p ≡ o → [] ≡ sent_of o
@@ -96,9 +105,11 @@ module _ {M : Type 0} (k : MasterModel M) (plan : Plan) (m : M) (n : ℕ) where
 
   pub going-fresh : (e : End M) (now : List (Option Wire)) (ws : List Wire) → e ≡ fresh start n → n ≡ length now
       → ((p : ℕ) (w : Wire) → slice_get now p ≡ Some (Some w) → IsFresh w)
-      → ((p : ℕ) (w : Wire) → slice_get now p ≡ Some (Some w) → IsWire w) → AllTell now ws → Going k start (said_on ws) e now
+      → ((p : ℕ) (w : Wire) → slice_get now p ≡ Some (Some w) → IsWire w) → AllTell now ws
+      → Going k start (said_on ws) e now
   going-fresh e now ws is size unused wires tell =
-      let fresh_at = λ (p : ℕ) (w : Wire) (here : slice_get ws p ≡ Some w). unused p w (tell-some now ws p w tell here) in
+      let fresh_at = λ (p : ℕ) (w : Wire) (here : slice_get ws p ≡ Some w). unused p w (tell-some now ws p w tell
+      here) in
       let count : n ≡ length ws = size ∙ tell-size now ws tell in
       let nil : Streams = λ p. [] in
       let run = subst (λ (e : End M). HasRun k start n nil nil e) (sym is) (run-fresh k start n refl) in (
@@ -121,7 +132,8 @@ module _ {M : Type 0} (k : MasterModel M) (plan : Plan) (m : M) (n : ℕ) where
   fresh-size e is = sym (length-replicate n _) ∙ sym (ap (λ (e : End M). length e.ports) is)
 
   -- a port that is awaited is there
-  pub step-there : (p : ℕ) (old new : End M) (t : Turn) → need_of t ≡ need.Bytes p → Turned k old new t → Holds k plan n (core_of old)
+  pub step-there : (p : ℕ) (old new : End M) (t : Turn) → need_of t ≡ need.Bytes p → Turned k old new t
+      → Holds k plan n (core_of old)
       → p < n
   step-there p old new t is turned holds =
       let waits = step-waits k p old new t is turned in
@@ -144,14 +156,14 @@ module _ {M : Type 0} (k : MasterModel M) (plan : Plan) (m : M) (n : ℕ) where
       let mid_holds = subst (λ (e : End M). Holds k plan n (core_of e)) (sym waits.1) holds in
       let there = step-there p old mid t is turned holds in
       let came = subst (λ r. Fed p mid new (Ok r)) more fed in
-      let less = read-less k plan n p mid new came.0 (omega (arith, there, size)) waits.0 came.1 came.2 in
-      (
+      let less = read-less k plan n p mid new came.0 (omega (arith, there, size)) waits.0 came.1 came.2 in (
         subst (Holds k plan n) (sym less.0) mid_holds,
         subst (λ (e : End M). remaining k plan n new < remaining k plan n e) waits.1 less.1,
       )
 
   pub ends-leaves : (said : Said) (p : ℕ) (old mid new : End M) (t : Turn) (r : Pulled) (x : EndFault PacketFault)
-      (now : List (Option Wire)) → r ≡ pulled.End → need_of t ≡ need.Bytes p → Turned k old mid t → Holds k plan n (core_of old)
+      (now : List (Option Wire)) → r ≡ pulled.End → need_of t ≡ need.Bytes p → Turned k old mid t
+      → Holds k plan n (core_of old)
       → length mid.ports ≡ n → mid.kept ≡ None → SendsAll k (Ok t) mid → Fed p mid new (Ok r) → FinishesBy new p x
       → ReadsOn k start said p new now (Ok r)
       → Leaves k start said new.clear (Err (turn_fault.Port (record { port = p; fault = x }))) now
@@ -164,4 +176,5 @@ module _ {M : Type 0} (k : MasterModel M) (plan : Plan) (m : M) (n : ℕ) where
       let back = subst (λ (e : End M). IsAtRest k e) (sym same) all in
       let here : length new.ports ≡ n = ap (λ (e : End M). length e.ports) same ∙ size in
       finished k start said new p x now (omega (arith, there, here))
-      (waits-outlook k p new (subst (IsWaiting k p) (sym same) waits.0)) (ap (λ (e : End M). e.kept) same ∙ kept) back finishes at
+      (waits-outlook k p new (subst (IsWaiting k p) (sym same) waits.0)) (ap (λ (e : End M). e.kept) same
+      ∙ kept) back finishes at

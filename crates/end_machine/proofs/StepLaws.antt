@@ -1,5 +1,7 @@
 -- One turn of drive: what its answer says of the end, and that there is less left to do.
-use Rattle.std.proofs.Common.{◌≡◌, ℕ, zero, suc, ◌+◌, ◌-◌, ◌*◌, ◌<◌, ◌≤◌, true, false, Bool, List, [], ◌∷◌, ◌++◌, length, drop, get_or, map, replicate, set, refl, sym, ap, ◌∙◌, subst, arith, length-append, Result, Ok, Err}
+use Rattle.std.proofs.Common.{◌≡◌, ℕ, zero, suc, ◌+◌, ◌-◌, ◌*◌, ◌<◌, ◌≤◌, true, false, Bool, List, [], ◌∷◌, ◌++◌}
+use Rattle.std.proofs.Common.{length, drop, get_or, map, replicate, set, refl, sym, ap, ◌∙◌, subst, arith}
+use Rattle.std.proofs.Common.{length-append, Result, Ok, Err}
 use Rattle.std.specs.Prelude.{Option, Some, None, if◌then◌else◌, option_map, slice_get}
 use Rattle.std.proofs.lemmas.Option.{none-some, same_Some}
 use Rattle.process_network.specs.PacketStar.{HubEnd, HubOutlook, hub_after_take, hub_turn_by, fresh_hub}
@@ -16,7 +18,10 @@ use Rattle.ends_model.specs.declared.ends.Phase.TheVariants.{Greet, Meet, Run, A
 use Rattle.ends_model.specs.declared.ends.Turn.{Turn}
 use Rattle.ends_model.specs.declared.ends.Turn.TheVariants as turn
 use Rattle.ends_model.specs.Answers.{answer_by, take_answer, unless_faulty}
-use Rattle.ends_model.specs.MachineTurn.{Act, MachineEnd, PortEnd, accesses, acts_in, acts_unless, at_port, first_true, gathers, greets, held_time, is_due, is_unknown, machine_acts, machine_outlook, machine_takes, outlook_of, runs, serves, serves_held, serves_least, syncs, works}
+use Rattle.ends_model.specs.MachineTurn.{Act, MachineEnd, PortEnd, accesses, acts_in, acts_unless, at_port}
+use Rattle.ends_model.specs.MachineTurn.{first_true, gathers, greets, held_time, is_due, is_unknown, machine_acts}
+use Rattle.ends_model.specs.MachineTurn.{machine_outlook, machine_takes, outlook_of, runs, serves, serves_held}
+use Rattle.ends_model.specs.MachineTurn.{serves_least, syncs, works}
 use Rattle.ends_model.specs.MachineTurn.Act.{Works, Sends, Awaits, Serves, Marks, Rests, Fails, Lost}
 use Rattle.rp_framing.specs.FrontLaws.{first-few}
 use Rattle.rp_packet.specs.declared.fault.Cause.{Cause}
@@ -26,7 +31,8 @@ use Rattle.machine_turns.specs.declared.fault.PortFault.{PortFault}
 use Rattle.machine_core.specs.Machines.{awaited}
 use Rattle.machine_turns.specs.RunLaws.{fed-ports}
 use Rattle.machine_turns.specs.Runs.{machine_alone, only_at}
-use Rattle.machine_turns.specs.Ends.{End, Goes, IsTurn, IsWaiting, Received, core_of, fed_at, held_at, held_of, more, put, turn_of}
+use Rattle.machine_turns.specs.Ends.{End, Goes, IsTurn, IsWaiting, Received, core_of, fed_at, held_at, held_of, more}
+use Rattle.machine_turns.specs.Ends.{put, turn_of}
 use Rattle.end_machine.specs.declared.driving.Need.{Need}
 use Rattle.end_machine.specs.declared.driving.Need.TheVariants as need
 use Rattle.end_machine.specs.Going.{Turned, need_of, waiting_at, waiting_bytes}
@@ -46,7 +52,8 @@ NotRests (Fails p f) = Unit {0}
 NotRests Lost = Unit {0}
 
 module _ {M : Type 0} (k : MasterModel M) (h : MachineEnd M Cause) where
-  port-works : (o : Option PortEnd) (act : PortEnd → Act M Cause) → ((q : PortEnd) → NotRests (act q)) → NotRests (at_port o act)
+  port-works : (o : Option PortEnd) (act : PortEnd → Act M Cause) → ((q : PortEnd) → NotRests (act q))
+      → NotRests (at_port o act)
   port-works None act each = tt
   port-works (Some q) act each = each q
 
@@ -121,7 +128,8 @@ module _ {M : Type 0} (k : MasterModel M) (h : MachineEnd M Cause) where
     answers-waits p (Sends q x next) is = absurd (cc (is))
     answers-waits p (Awaits q) is = took (whole q) is
       where
-        unless-not : (f : Option (ℕ × EndFault Cause)) → Some (unless_faulty (turn.Took q) f) ≡ Some (Ok (turn.NotYet p)) → ⊥
+        unless-not : (f : Option (ℕ × EndFault Cause)) → Some (unless_faulty (turn.Took q) f) ≡ Some (Ok (turn.NotYet
+            p)) → ⊥
         unless-not None is = absurd (cc (is))
         unless-not (Some f) is = absurd (cc (is))
 
@@ -204,7 +212,8 @@ module _ {M : Type 0} (k : MasterModel M) where
       → IsTurn k old new before after (Ok turn.Done) f → new ≡ old
   done-same old new before after f call =
       let rests = answers-done k (core_of old) _ (machine_acts k (core_of old)) call.answers in
-      same-by old new before after (turn_of k old) (ap (λ (a : Act M Cause). turn-by old (outlook_of a)) rests) call.goes
+      same-by old new before after (turn_of k old) (ap (λ (a : Act M Cause). turn-by old (outlook_of a)) rests)
+      call.goes
 
   waits-held : (p : ℕ) (e : End M) (o : Option (Decoded Cause × ℕ)) → first (held_at e p) ≡ o
       → take_answer k (core_of e) p (option_map (λ r. r.0) o) ≡ Ok (turn.NotYet p) → o ≡ None
@@ -219,7 +228,8 @@ module _ {M : Type 0} (k : MasterModel M) where
   pub waits-none : (p : ℕ) (e : End M) → IsWaiting k p e → first (held_at e p) ≡ None
   waits-none p e waits =
       let acts = turned-waits p e waits in
-      let answers = ap (answer_by k (core_of e) (λ p. option_map (λ r. r.0) (first (held_at e p)))) (sym acts) ∙ waits in
+      let answers = ap (answer_by k (core_of e) (λ p. option_map (λ r. r.0) (first (held_at e p)))) (sym acts)
+      ∙ waits in
       waits-held p e (first (held_at e p)) refl (same_Some _ _ answers)
 
   pub waits-same : (p : ℕ) (old new : End M) (before after : List ℕ) (f : Option PortFault)
@@ -229,7 +239,8 @@ module _ {M : Type 0} (k : MasterModel M) where
       let n = length old.ports in
       same-by old new before after (turn_of k old)
       (ap (turn-by old) (waits-outlook p old call.answers)
-      ∙ ap (λ i. hub_after_take (machine_alone k packet_codec) (fresh_hub (core_of old) n) p (first (drop i (held_at old p)))) (zeros n p)
+      ∙ ap (λ i. hub_after_take (machine_alone k packet_codec) (fresh_hub (core_of old) n) p (first (drop i (held_at
+      old p)))) (zeros n p)
       ∙ ap (hub_after_take (machine_alone k packet_codec) (fresh_hub (core_of old) n) p) none) call.goes
 
   module _ (plan : Plan) (n : ℕ) where
@@ -241,35 +252,43 @@ module _ {M : Type 0} (k : MasterModel M) where
     less-as : (old new : End M) (next : MachineEnd M Cause) → core_of new ≡ next
         → Holds k plan n next × (left k plan n next < left k plan n (core_of old)) → Less old new
     less-as old new next is less =
-        subst (λ (h : MachineEnd M Cause). Holds k plan n h × (left k plan n h < left k plan n (core_of old))) (sym is) less
+        subst (λ (h : MachineEnd M Cause). Holds k plan n h × (left k plan n h < left k plan n (core_of old))) (sym
+        is) less
 
     took-less : (old new : End M) (p : ℕ) (t : Turn) (before after : List ℕ) (o : Option (Decoded Cause × ℕ)) → Moves t
         → Holds k plan n (core_of old) → machine_outlook k (core_of old) ≡ HubWaits p
         → take_answer k (core_of old) p (option_map (λ r. r.0) o) ≡ Ok t
-        → Goes (hub_after_take (machine_alone k packet_codec) (fresh_hub (core_of old) (length old.ports)) p o) old new before after
+        → Goes (hub_after_take (machine_alone k packet_codec) (fresh_hub (core_of old) (length old.ports)) p o) old
+        new before after
         → Less old new
     took-less old new p t before after None moves holds waits answers goes =
         let is : turn.NotYet p ≡ t = cc (answers) in absurd (subst Moves (sym is) moves)
     took-less old new p t before after (Some m) moves holds waits answers goes =
         less-as old new _ goes.0 (takes-on k plan n (core_of old) holds p waits m.0)
 
-    acted-less : (old new : End M) (t : Turn) (before after : List ℕ) (a : Act M Cause) → Moves t → Holds k plan n (core_of old)
+    acted-less : (old new : End M) (t : Turn) (before after : List ℕ) (a : Act M Cause) → Moves t
+        → Holds k plan n (core_of old)
         → machine_acts k (core_of old) ≡ a
         → answer_by k (core_of old) (λ p. option_map (λ r. r.0) (first (held_at old p))) a ≡ Some (Ok t)
         → Goes (turn-by old (outlook_of a)) old new before after → Less old new
     acted-less old new t before after (Works next) moves holds is answers goes =
-        less-as old new next goes.0 (acts-on k plan n (core_of old) holds next _ (ap (λ (a : Act M Cause). outlook_of a) is))
+        less-as old new next goes.0 (acts-on k plan n (core_of old) holds next _ (ap (λ (a : Act M Cause). outlook_of
+        a) is))
     acted-less old new t before after (Sends p x next) moves holds is answers goes =
-        less-as old new next goes.0 (acts-on k plan n (core_of old) holds next _ (ap (λ (a : Act M Cause). outlook_of a) is))
+        less-as old new next goes.0 (acts-on k plan n (core_of old) holds next _ (ap (λ (a : Act M Cause). outlook_of
+        a) is))
     acted-less old new t before after (Awaits p) moves holds is answers goes =
-        took-less old new p t before after (first (held_at old p)) moves holds (ap (λ (a : Act M Cause). outlook_of a) is)
+        took-less old new p t before after (first (held_at old p)) moves holds (ap (λ (a : Act M Cause). outlook_of
+        a) is)
         (same_Some _ _ answers)
         (subst (λ i. Goes (hub_after_take (machine_alone k packet_codec) (fresh_hub (core_of old) (length old.ports)) p
         (first (drop i (held_at old p)))) old new before after) (zeros (length old.ports) p) goes)
     acted-less old new t before after (Serves p next) moves holds is answers goes =
-        less-as old new next goes.0 (acts-on k plan n (core_of old) holds next _ (ap (λ (a : Act M Cause). outlook_of a) is))
+        less-as old new next goes.0 (acts-on k plan n (core_of old) holds next _ (ap (λ (a : Act M Cause). outlook_of
+        a) is))
     acted-less old new t before after (Marks next) moves holds is answers goes =
-        less-as old new next goes.0 (acts-on k plan n (core_of old) holds next _ (ap (λ (a : Act M Cause). outlook_of a) is))
+        less-as old new next goes.0 (acts-on k plan n (core_of old) holds next _ (ap (λ (a : Act M Cause). outlook_of
+        a) is))
     acted-less old new t before after Rests moves holds is answers goes =
         let done : turn.Done ≡ t = cc (answers) in absurd (subst Moves (sym done) moves)
     acted-less old new t before after (Fails p f) moves holds is answers goes = absurd (cc (answers))
@@ -285,13 +304,16 @@ module _ {M : Type 0} (k : MasterModel M) where
     abbrev pub remaining : End M → ℕ
     remaining e = left k plan n (core_of e) * 65557 + (65556 - waiting_bytes k e)
 
-    turned-less : (old new : End M) → left k plan n (core_of new) < left k plan n (core_of old) → remaining new < remaining old
-    turned-less old new less = times-less (left k plan n (core_of new)) (left k plan n (core_of old)) (waiting_bytes k new) (waiting_bytes k old) less
+    turned-less : (old new : End M) → left k plan n (core_of new) < left k plan n (core_of old)
+        → remaining new < remaining old
+    turned-less old new less = times-less (left k plan n (core_of new)) (left k plan n (core_of old)) (waiting_bytes
+        k new) (waiting_bytes k old) less
       where
         times-less : (a b c d : ℕ) → a < b → a * 65557 + (65556 - c) < b * 65557 + (65556 - d)
         times-less a b c d less = omega (arith, less)
 
-    pub step-moves : (old new : End M) (t : Turn) → need_of t ≡ need.Turn → Turned k old new t → Holds k plan n (core_of old)
+    pub step-moves : (old new : End M) (t : Turn) → need_of t ≡ need.Turn → Turned k old new t
+        → Holds k plan n (core_of old)
         → Holds k plan n (core_of new) × (remaining new < remaining old)
     step-moves old new t is turned holds =
         let less = moves-less old new t turned.0 turned.1 None (need-moves t is) holds turned.2 in
@@ -314,19 +336,24 @@ module _ {M : Type 0} (k : MasterModel M) where
         ∙ ap (λ b. length (there.0.held ++ (if b then piece else []))) (itself p)
         ∙ length-append there.0.held piece ∙ ap (λ o. length (held_of o) + length piece) (sym there.1)
 
-    pub read-less : (p : ℕ) (old new : End M) (piece : List ℕ) → p < length old.ports → IsWaiting k p old → 1 ≤ length piece
+    pub read-less : (p : ℕ) (old new : End M) (piece : List ℕ) → p < length old.ports → IsWaiting k p old
+        → 1 ≤ length piece
         → new ≡ fed_at None p piece old → (core_of new ≡ core_of old) × (remaining new < remaining old)
     read-less p old new piece within waits some is =
         let core = ap (λ (e : End M). core_of e) is ∙ fed-core p piece old in
-        let acts = ap (λ h. awaited (machine_acts k h)) core ∙ ap (λ (a : Act M Cause). awaited a) (turned-waits p old waits) in
+        let acts = ap (λ h. awaited (machine_acts k h)) core
+        ∙ ap (λ (a : Act M Cause). awaited a) (turned-waits p old waits) in
         let now : waiting_bytes k new ≡ length (held_at old p) + length piece =
         ap (waiting_at new) acts ∙ ap (λ (e : End M). length (held_at e p)) is ∙ fed-held p piece old within in
         let was : waiting_bytes k old ≡ length (held_at old p) =
         ap (waiting_at old) (ap (λ (a : Act M Cause). awaited a) (turned-waits p old waits)) in
         let few = first-few (held_at old p) (waits-none p old waits) in
-        let same = ap (left k plan n) core in
-        (core, byte-less (left k plan n (core_of new)) (left k plan n (core_of old)) (waiting_bytes k new) (waiting_bytes k old)
-        (length (held_at old p)) (length piece) same now was few some)
+        let same = ap (left k plan n) core in (
+          core,
+          byte-less (left k plan n (core_of new)) (left k plan n (core_of old)) (waiting_bytes k new)
+              (waiting_bytes k old)
+              (length (held_at old p)) (length piece) same now was few some,
+        )
       where
         byte-less : (a b c d held size : ℕ) → a ≡ b → c ≡ held + size → d ≡ held → held < 65556 → 1 ≤ size
             → a * 65557 + (65556 - c) < b * 65557 + (65556 - d)

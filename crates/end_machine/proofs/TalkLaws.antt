@@ -28,23 +28,27 @@ steady k = ends_monotone (machine_alone k packet_codec) codec-laws.decided
 
 -- The hub alone, as a network of one process.
 
-turn-is : {H : Type 0} (n : ℕ) (t : Option (H × Option (ℕ × List ℕ))) (s : H) (more : Streams) → by_port n t ≡ Some (s, more)
+turn-is : {H : Type 0} (n : ℕ) (t : Option (H × Option (ℕ × List ℕ))) (s : H) (more : Streams)
+    → by_port n t ≡ Some (s, more)
     → (m : Option (ℕ × List ℕ)) × (t ≡ Some (s, m)) × ((λ p. to_leaf n m (suc p)) ≡ more)
 turn-is n None s more e = absurd (none-some (s, more) e)
 turn-is {H} n (Some r) s more e =
     let same = same_Some {A = H × Streams} (r.0, λ p. to_leaf n r.1 (suc p)) (s, more) e in
     (r.1, ap (λ (v : H × Streams). Some (v.0, r.1)) same, ap (λ (v : H × Streams). v.1) same)
 
-alone-steady : {H L : Type 0} (star : Star H L) (n : ℕ) (hub : H) → IsStarMonotone star → IsMonotone (hub_alone star n hub)
+alone-steady : {H L : Type 0} (star : Star H L) (n : ℕ) (hub : H) → IsStarMonotone star
+    → IsMonotone (hub_alone star n hub)
 alone-steady star n hub monotone i s x y r b e =
     let t = turn-is n (star.hub_turn s x) r.0 r.1 e in
     ap (by_port n) (monotone.0 s x y (r.0, t.0) b t.1) ∙ ap (λ o. Some (r.0, o)) t.2
 
 -- A turn that can't be taken over more bytes can't be taken over fewer.
-pub rests-below : {M : Type 0} (k : MasterModel M) (h : Taking M) (x y : Streams) → Below x y → Rests k h y → Rests k h x
+pub rests-below : {M : Type 0} (k : MasterModel M) (h : Taking M) (x y : Streams) → Below x y → Rests k h y
+    → Rests k h x
 rests-below {M} k h x y below rests = by ((star_of (machine_alone k packet_codec)).hub_turn h x) refl
   where
-    by : (o : Option (Taking M × Option (ℕ × List ℕ))) → (star_of (machine_alone k packet_codec)).hub_turn h x ≡ o → Rests k h x
+    by : (o : Option (Taking M × Option (ℕ × List ℕ))) → (star_of (machine_alone k packet_codec)).hub_turn h x ≡ o
+        → Rests k h x
     by None is = is
     by (Some r) is = absurd (none-some r (sym rests ∙ (steady k).0 h x y r below is))
 
@@ -55,23 +59,27 @@ module _ {M : Type 0} (k : MasterModel M) (plan : Plan) (n : ℕ) (m : M) where
   abbrev alone : Star (Taking M) (LeafEnd (Unit {0}))
   alone = star_of (machine_alone k packet_codec)
 
-  pub run-longer : (x y : Streams) (turns : ℕ) (h : Taking M) (sent : Streams) → Below x y → IsRun k start n x turns h sent
+  pub run-longer : (x y : Streams) (turns : ℕ) (h : Taking M) (sent : Streams) → Below x y
+      → IsRun k start n x turns h sent
       → IsRun k start n y turns h sent
   run-longer x y turns h sent below run =
       alone_run alone n (fresh_hub start n) y turns h sent
-      (runs_more (hub_alone alone n (fresh_hub start n)) (alone-steady alone n (fresh_hub start n) (steady k)) 0 x y below turns h sent
+      (runs_more (hub_alone alone n (fresh_hub start n)) (alone-steady alone n (fresh_hub start n) (steady k)) 0 x y
+      below turns h sent
       (run_alone alone n (fresh_hub start n) x turns h sent run))
 
   -- a run sends no more than one over more bytes that no turn is left to
   pub sends-less : (x y : Streams) (turns more : ℕ) (h g : Taking M) (sent all : Streams) → Below x y
       → IsRun k start n x turns h sent → IsRun k start n y more g all → Rests k g y → Below sent all
   sends-less x y turns more h g sent all below run whole rests =
-      (run_below (hub_alone alone n (fresh_hub start n)) (alone-steady alone n (fresh_hub start n) (steady k)) 0 x y below turns more h g
+      (run_below (hub_alone alone n (fresh_hub start n)) (alone-steady alone n (fresh_hub start n) (steady k)) 0 x y
+      below turns more h g
       sent all (run_alone alone n (fresh_hub start n) x turns h sent run)
       (run_alone alone n (fresh_hub start n) y more g all whole) (ap (by_port n) rests)).1
 
   -- two whole runs over the same bytes send the same
-  sends-same : (x : Streams) (turns more : ℕ) (h g : Taking M) (sent all : Streams) → IsRun k start n x turns h sent → Rests k h x
+  sends-same : (x : Streams) (turns more : ℕ) (h g : Taking M) (sent all : Streams) → IsRun k start n x turns h sent
+      → Rests k h x
       → IsRun k start n x more g all → Rests k g x → (p : ℕ) → sent p ≡ all p
   sends-same x turns more h g sent all run rests whole stops =
       (maximal_same (hub_alone alone n (fresh_hub start n)) 0 x x (λ p. refl) turns more h g sent all
@@ -100,9 +108,11 @@ module _ {M : Type 0} (k : MasterModel M) (plan : Plan) (n : ℕ) (m : M) where
       pub fixed : IsFixed said given sent
 
     pub settles : (x : Streams) (turns : ℕ) (h : Taking M) (sent : Streams) → IsRun k start n x turns h sent
-        → Below x (λ p. said p (sent p)) → Rests k h (λ p. said p (sent p)) → IsInTime k start n said x → Settled turns h sent
+        → Below x (λ p. said p (sent p)) → Rests k h (λ p. said p (sent p)) → IsInTime k start n said x
+        → Settled turns h sent
     settles x turns h sent run within rests in_time =
-        let ends = packet_talk_ends (machine_alone k packet_codec) n start (steady k) (work-bounded k plan n m) said telling in
+        let ends = packet_talk_ends (machine_alone k packet_codec) n start (steady k) (work-bounded k plan n m) said
+        telling in
         let given = ends.1 in
         let first = ends.5 in
         let longer = run-longer x (λ p. said p (sent p)) turns h sent within run in

@@ -1,5 +1,6 @@
 -- Links by port, where one of them is changed.
-use Rattle.std.proofs.Common.{◌≡◌, ℕ, zero, suc, ◌<◌, Bool, true, false, List, [], ◌∷◌, ◌++◌, length, map, set, refl, sym, ap, ◌∙◌, subst, arith}
+use Rattle.std.proofs.Common.{◌≡◌, ℕ, zero, suc, ◌<◌, Bool, true, false, List, [], ◌∷◌, ◌++◌, length, map, set, refl}
+use Rattle.std.proofs.Common.{sym, ap, ◌∙◌, subst, arith}
 use Rattle.std.specs.Prelude.{Option, Some, None, nat_eq, if◌then◌else◌, slice_get}
 use Rattle.std.proofs.lemmas.Bool.Decides.{nat_tests}
 use Rattle.std.proofs.lemmas.List.{append-nil, length-map, length-set, map-set}
@@ -115,11 +116,13 @@ pub tell-at : (told : List (Option Wire)) (ws : List Wire) (p : ℕ) (o : Option
     → slice_get told p ≡ Some o → (w : Wire) × (o ≡ Some w) × (slice_get ws p ≡ Some w)
 tell-at told ws p o tell there = somes ws p o (ap (λ xs. slice_get xs p) (sym tell) ∙ there)
 
-mapped-some : (ws : List Wire) (p : ℕ) (w : Wire) → slice_get ws p ≡ Some w → slice_get (map (λ w. Some w) ws) p ≡ Some (Some w)
+mapped-some : (ws : List Wire) (p : ℕ) (w : Wire) → slice_get ws p ≡ Some w
+    → slice_get (map (λ w. Some w) ws) p ≡ Some (Some w)
 mapped-some [] p w e = absurd (none-some w e)
 mapped-some (x ∷ ws) zero w e = ap (λ w. Some (Some w)) (same_Some x w e)
 mapped-some (x ∷ ws) (suc p) w e = mapped-some ws p w e
 
-pub tell-some : (told : List (Option Wire)) (ws : List Wire) (p : ℕ) (w : Wire) → AllTell told ws → slice_get ws p ≡ Some w
+pub tell-some : (told : List (Option Wire)) (ws : List Wire) (p : ℕ) (w : Wire) → AllTell told ws
+    → slice_get ws p ≡ Some w
     → slice_get told p ≡ Some (Some w)
 tell-some told ws p w tell there = ap (λ xs. slice_get xs p) tell ∙ mapped-some ws p w there

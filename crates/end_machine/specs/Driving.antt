@@ -6,23 +6,36 @@ use Rattle.byte_streams.specs.Prefixes.{IsPrefix}
 use Rattle.process_network.specs.Network.{Streams}
 use Rattle.process_network.specs.TellingLinks.{IsFixed}
 use Rattle.cos_base.specs.Counts.{Rises}
-use Rattle.cos_base.specs.Links.{Wire}
+use Rattle.cos_base.specs.Links.{IsFresh, Wire}
 use Rattle.cosim_model.specs.declared.session.EndFault.{EndFault}
 use Rattle.cosim_model.specs.declared.session.EndFault.TheVariants as fault
 use Rattle.cosim_model.specs.declared.values.Plan.{Plan}
 use Rattle.cosim_model.specs.Parts.{DeviceModel, MasterModel}
 use Rattle.ends_model.specs.MachineTurn.{MachineEnd}
-use Rattle.ends_model.specs.World.{Side}
-use Rattle.every_schedule.specs.Schedules.{directly}
+use Rattle.ends_model.specs.World.{Fit, Side, machine_start}
+use Rattle.every_schedule.specs.Schedules.{IsHonest, directly}
 use Rattle.rp_packet.specs.declared.fault.Cause.{Cause}
 use Rattle.rp_packet.specs.declared.fault.PacketFault.{PacketFault}
 use Rattle.rp_packet.specs.Streams.{packet_codec}
 use Rattle.machine_turns.specs.declared.fault.PortFault.{PortFault}
 use Rattle.machine_turns.specs.declared.fault.TurnFault.{TurnFault}
 use Rattle.machine_turns.specs.declared.fault.TurnFault.TheVariants as turn_fault
+use Rattle.machine_turns.specs.Ends.{End, fresh}
 use Rattle.machine_turns.specs.Runs.{IsRun, IsWholeRun, Rests, Taking}
 use Rattle.end_machine.specs.Talk.{EndsSo, HasParts, IfLink}
 use Rattle.end_machine.specs.Wires.{AllTell, Said, received_on, said_on, sent_on}
+
+-- an end with so many ports that has taken no turn and received nothing
+abbrev pub IsFreshEnd : {M : Type 0} → ℕ → End M → Type 0
+IsFreshEnd n e = e ≡ fresh (machine_start Cause e.clear.master n e.clear.plan) n
+
+-- nothing was sent or received on the links that tell
+abbrev pub AllFresh : List (Option Wire) → Type 0
+AllFresh told = (p : ℕ) (w : Wire) → slice_get told p ≡ Some (Some w) → IsFresh w
+
+-- this holds of what the links tell, where all do
+abbrev pub WhereTold : List (Option Wire) → (List Wire → Type 0) → Type 0
+WhereTold told P = (ws : List Wire) → AllTell told ws → P ws
 
 -- at the end of the stream of an awaited port all was received that its link says for what was sent
 abbrev pub IsAllReadBy : Said → Streams → Streams → ℕ → EndFault PacketFault → Type 0
@@ -125,3 +138,12 @@ abbrev pub EndsDirectly :
 EndsDirectly k d plan m xs e (Ok u) = IsDirect k d plan m xs e
 EndsDirectly k d plan m xs e (Err (turn_fault.Port f)) = IfLink f.fault (Unit {0}) ⊥
 EndsDirectly k d plan m xs e (Err turn_fault.NoMemory) = Unit {0}
+
+-- Where the links are honest for fresh device ends that fit.
+abbrev pub DrivesDirectly :
+    {M S : Type 0} → MasterModel M → DeviceModel S → MachineEnd M Cause → MachineEnd M Cause → Result Unit TurnFault
+    → List Wire → Type 0
+DrivesDirectly {M} {S} k d start e r ws =
+    (xs : List (Side × S)) → length xs ≡ length ws → Fit k d start.plan start.master xs
+    → IsHonest k d packet_codec start.plan start.master xs (said_on ws)
+    → EndsDirectly k d start.plan start.master xs e r

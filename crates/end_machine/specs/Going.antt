@@ -1,15 +1,17 @@
 -- What holds between the calls that drive makes: how far the links and the end have come together.
-use Rattle.std.specs.Prelude.{◌≡◌, ℕ, ◌+◌, ◌-◌, ◌*◌, ◌<◌, ◌≤◌, List, [], ◌++◌, length, Option, Some, None, Result, Ok, Err}
+use Rattle.std.specs.Prelude.{◌≡◌, ℕ, ◌≤◌, List, [], ◌++◌, length, Option, Some, None, Result, Ok, Err}
 use Rattle.std.specs.Prelude.{set, slice_get}
 use Rattle.byte_streams.specs.Prefixes.{IsPrefix}
 use Rattle.process_network.specs.TellingLinks.{IsTelling}
 use Rattle.cos_base.specs.Links.{Wire}
 use Rattle.cosim_model.specs.declared.session.EndFault.{EndFault}
 use Rattle.cosim_model.specs.declared.session.EndFault.TheVariants as fault
+use Rattle.cosim_model.specs.declared.values.Plan.{Plan}
 use Rattle.cosim_model.specs.Parts.{MasterModel}
 use Rattle.ends_model.specs.declared.ends.Turn.{Turn}
 use Rattle.ends_model.specs.declared.ends.Turn.TheVariants as turn
 use Rattle.ends_model.specs.MachineTurn.{MachineEnd, machine_acts}
+use Rattle.ends_model.specs.World.{machine_start}
 use Rattle.rp_framing.specs.declared.receiver.Pulled.{Pulled}
 use Rattle.rp_framing.specs.declared.receiver.Pulled.TheVariants as pulled
 use Rattle.rp_packet.specs.declared.fault.Cause.{Cause}
@@ -57,6 +59,22 @@ abbrev pub ReadsOn :
 ReadsOn k start said p e now (Ok pulled.More) = Going k start said e now
 ReadsOn k start said p e now (Ok pulled.End) = Tells now (IsAtEnd k start said p e)
 ReadsOn k start said p e now (Err f) = Leaves k start said e.clear (Err f) now
+
+-- Links to a machine end with so many ports go on, or are left so, whatever they say and whatever end was driven.
+
+abbrev pub KeepsGoing :
+    {M A : Type 0} → MasterModel M → ℕ → End M → End M → List (Option Wire) → List (Option Wire) → Result A TurnFault
+    → Type 0
+KeepsGoing {M} k n old new told now r =
+    (m : M) (plan : Plan) (said : Said) → Going k (machine_start Cause m n plan) said old told
+    → Settles k (machine_start Cause m n plan) said new now r
+
+abbrev pub KeepsReading :
+    {M : Type 0} → MasterModel M → ℕ → ℕ → End M → End M → List (Option Wire) → List (Option Wire)
+    → Result Pulled TurnFault → Type 0
+KeepsReading {M} k n p old new told now r =
+    (m : M) (plan : Plan) (said : Said) → Going k (machine_start Cause m n plan) said old told
+    → ReadsOn k (machine_start Cause m n plan) said p new now r
 
 -- what was sent on the link of a port: all, or after a fault a part of it
 pub record AreSent (ws : List Wire) (p : ℕ) (bytes : List ℕ) (now : List (Option Wire)) : Type 0 where

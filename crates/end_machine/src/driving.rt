@@ -1,16 +1,11 @@
 // A machine end over its links.
-ghost use Rattle.std.specs.Prelude.{◌≡◌, ◌<◌, ◌≤◌, All, IfOk, IfSome, Option, Some, None, Ok, List, ℕ, length, map, slice_get};
-ghost use Rattle.cos_base.specs.Links.{Wire, IsFresh};
-ghost use Rattle.cosim_model.specs.declared.values.Plan.{Plan};
-ghost use Rattle.ends_model.specs.World.{Fit, Side, machine_start};
-ghost use Rattle.every_schedule.specs.Schedules.{IsHonest};
-ghost use Rattle.rp_packet.specs.declared.fault.Cause.{Cause};
-ghost use Rattle.rp_packet.specs.Streams.{packet_codec};
-ghost use Rattle.machine_turns.specs.Ends.{IsWaiting, SendsAll, fresh};
-ghost use Rattle.end_machine.specs.Wires.{AllTell, Said, said_on};
+ghost use Rattle.std.specs.Prelude.{◌≡◌, ◌<◌, All, IfOk, None, Ok, length, map};
+ghost use Rattle.machine_turns.specs.Ends.{IsWaiting, SendsAll};
+ghost use Rattle.end_machine.specs.Wires.{said_on};
 ghost use Rattle.end_machine.specs.Talk.{ByTalk};
-ghost use Rattle.end_machine.specs.Driving.{DriveCounts, EndsDirectly, Leaves, NotLink, kept_by};
-ghost use Rattle.end_machine.specs.Going.{Fed, FinishesBy, Going, KeptInRun, OnlyLink, ReadsOn, SendsOn, Settles, Turned, need_of, port_of};
+ghost use Rattle.end_machine.specs.Driving.{AllFresh, DriveCounts, DrivesDirectly, IsFreshEnd, Leaves, NotLink, WhereTold, kept_by};
+ghost use Rattle.end_machine.specs.Going.{Fed, FinishesBy, KeepsGoing, KeepsReading, KeptInRun, OnlyLink, SendsOn, Turned};
+ghost use Rattle.end_machine.specs.Going.{need_of, port_of};
 
 use cos_api::{Device, Master};
 use cos_base::{Link, NoMemory, Octets};
@@ -82,8 +77,7 @@ fn step<M: Master, L: Link>(
     ensures rests { IfOk result (λ t. SendsAll M.model (Ok t) end.new) }
     ensures counts { DriveCounts (map L.count links.old) (map L.count links.new) result }
     ensures is_sound { All L.sound links.old → All L.sound links.new × NotLink result }
-    ensures goes { (m : M) (plan : Plan) (said : Said) → Going M.model (machine_start Cause m (length links.old) plan) said end.old (map L.told links.old) →
-        Settles M.model (machine_start Cause m (length links.old) plan) said end.new (map L.told links.new) result }
+    ensures goes { KeepsGoing M.model (length links.old) end.old end.new (map L.told links.old) (map L.told links.new) result }
 {
     out.clear();
     let turn = match end.turn(out) {
@@ -113,8 +107,7 @@ fn read_on<M: Master, L: Link>(
     ensures fed { Fed port end.old end.new result }
     ensures counts { DriveCounts (map L.count links.old) (map L.count links.new) result }
     ensures is_sound { All L.sound links.old → All L.sound links.new × NotLink result }
-    ensures goes { (m : M) (plan : Plan) (said : Said) → Going M.model (machine_start Cause m (length links.old) plan) said end.old (map L.told links.old) →
-        ReadsOn M.model (machine_start Cause m (length links.old) plan) said port end.new (map L.told links.new) result }
+    ensures goes { KeepsReading M.model (length links.old) port end.old end.new (map L.told links.old) (map L.told links.new) result }
 {
     match end.pull(port, &mut links[port as usize]) {
         Ok(pulled) => Ok(pulled),
@@ -147,12 +140,13 @@ fn run<M: Master, L: Link>(
     links: &mut [L],
     out: &mut Octets,
 ) -> Result<(), TurnFault>
-    requires fresh { end.old ≡ fresh (machine_start Cause end.old.clear.master (length links.old) end.old.clear.plan) (length links.old) }
-    requires unused { (p : ℕ) (w : Wire) → slice_get (map L.told links.old) p ≡ Some (Some w) → IsFresh w }
+    requires fresh { IsFreshEnd (length links.old) end.old }
+    requires unused { AllFresh (map L.told links.old) }
     ensures kept { KeptInRun result end.new.kept }
     ensures counts { DriveCounts (map L.count links.old) (map L.count links.new) result }
     ensures is_sound { All L.sound links.old → All L.sound links.new × NotLink result }
-    ensures leaves { (ws : List Wire) → AllTell (map L.told links.old) ws → Leaves M.model end.old.clear (said_on ws) end.new.clear result (map L.told links.new) }
+    ensures leaves { WhereTold (map L.told links.old)
+        (λ ws. Leaves M.model end.old.clear (said_on ws) end.new.clear result (map L.told links.new)) }
 {
     'turns: loop {
         match step(end, links, out) {
@@ -173,27 +167,27 @@ fn run<M: Master, L: Link>(
     }
 }
 
-/// Drives a fresh machine end over its links, one a port, on which nothing was sent or received, until its master's run is done or a
-/// fault comes. It may wait for the peers; it reads from the link of a port only while the end awaits a packet of it and holds none
-/// whole. The end keeps a fault with its port.
+/// Drives a fresh machine end over its links, one a port, on which nothing was sent or received, until its master's run is done
+/// or a fault comes. It may wait for the peers; it reads from the link of a port only while the end awaits a packet of it and
+/// holds none whole. The end keeps a fault with its port.
 ///
-/// `honest` is the promise over links that give what device ends send: `D` is the kind of their devices, which the contract alone names.
+/// `honest` is the promise over links that give what device ends send: the master, the calls and the ticks are then those of the
+/// machine that calls its devices directly. `D` is the kind of these devices, which the contract alone names.
 pub fn drive<M: Master, D: Device, L: Link>(
     alloc: Global,
     end: &mut MachineEnd<M>,
     links: &mut [L],
 ) -> Result<(), TurnFault>
-    requires fresh { end.old ≡ fresh (machine_start Cause end.old.clear.master (length links.old) end.old.clear.plan) (length links.old) }
-    requires unused { (p : ℕ) (w : Wire) → slice_get (map L.told links.old) p ≡ Some (Some w) → IsFresh w }
+    requires fresh { IsFreshEnd (length links.old) end.old }
+    requires unused { AllFresh (map L.told links.old) }
     ensures counts { DriveCounts (map L.count links.old) (map L.count links.new) result }
     ensures is_sound { All L.sound links.old → All L.sound links.new × NotLink result }
     ensures keeps { end.new.kept ≡ kept_by result }
-    ensures leaves { (ws : List Wire) → AllTell (map L.told links.old) ws → Leaves M.model end.old.clear (said_on ws) end.new.clear result (map L.told links.new) }
-    ensures talk { (ws : List Wire) → AllTell (map L.told links.old) ws → ByTalk M.model end.old.clear (length ws) (said_on ws) end.new.clear result }
-    ensures honest { (ws : List Wire) (xs : List (Side × D)) → AllTell (map L.told links.old) ws → length xs ≡ length ws
-        → Fit M.model D.model end.old.clear.plan end.old.clear.master xs
-        → IsHonest M.model D.model packet_codec end.old.clear.plan end.old.clear.master xs (said_on ws)
-        → EndsDirectly M.model D.model end.old.clear.plan end.old.clear.master xs end.new.clear result }
+    ensures leaves { WhereTold (map L.told links.old)
+        (λ ws. Leaves M.model end.old.clear (said_on ws) end.new.clear result (map L.told links.new)) }
+    ensures talk { WhereTold (map L.told links.old)
+        (λ ws. ByTalk M.model end.old.clear (length ws) (said_on ws) end.new.clear result) }
+    ensures honest { WhereTold (map L.told links.old) (DrivesDirectly M.model D.model end.old.clear end.new.clear result) }
 {
     let mut out = Octets::make(alloc);
     match run(end, links, &mut out) {

@@ -11,8 +11,10 @@ returns-in-Ok-clause-counts g c =
 
 pub returns-in-Ok-clause-goes : goal.returns-in-Ok-clause-goes
 returns-in-Ok-clause-goes g c = λ m plan said going.
-    link-reads g.M.Master.model plan m said g.L.Link.told c.args.links.now c.args.port c.index-links-port.result c.pull.new.link
-    (subst (λ n. c.args.port < n) (sym c.requires.ports) c.requires.there) c.args.end.now c.pull.new.self going c.in-Ok.pulled
+    link-reads g.M.Master.model plan m said g.L.Link.told c.args.links.now c.args.port c.index-links-port.result
+    c.pull.new.link
+    (subst (λ n. c.args.port < n) (sym c.requires.ports) c.requires.there) c.args.end.now c.pull.new.self going
+    c.in-Ok.pulled
     (g.met.L.Link.is_wire c.pull.new.link) (waits-clear g.M.Master.model c.args.port c.args.end.now c.requires.waits)
     c.in-Ok.ensures.pulls
 
@@ -24,7 +26,8 @@ returns-in-Err-Link-clause-counts g c =
 
 pub returns-in-Err-Link-clause-goes : goal.returns-in-Err-Link-clause-goes
 returns-in-Err-Link-clause-goes g c = λ m plan said going.
-    link-fails g.M.Master.model plan m said g.L.Link.told c.args.links.now c.args.port c.index-links-port.result c.pull.new.link
+    link-fails g.M.Master.model plan m said g.L.Link.told c.args.links.now c.args.port c.index-links-port.result
+    c.pull.new.link
     (subst (λ n. c.args.port < n) (sym c.requires.ports) c.requires.there) c.args.end.now c.pull.new.self going
     c.in-Err-Link.field-0 c.in-Err-Link.ensures.pulls
 
@@ -36,6 +39,7 @@ returns-in-Err-NoMemory-clause-counts g c =
 
 pub returns-in-Err-NoMemory-clause-goes : goal.returns-in-Err-NoMemory-clause-goes
 returns-in-Err-NoMemory-clause-goes g c = λ m plan said going.
-    link-fails g.M.Master.model plan m said g.L.Link.told c.args.links.now c.args.port c.index-links-port.result c.pull.new.link
+    link-fails g.M.Master.model plan m said g.L.Link.told c.args.links.now c.args.port c.index-links-port.result
+    c.pull.new.link
     (subst (λ n. c.args.port < n) (sym c.requires.ports) c.requires.there) c.args.end.now c.pull.new.self going
     c.in-Err-NoMemory.field-0 c.in-Err-NoMemory.ensures.pulls

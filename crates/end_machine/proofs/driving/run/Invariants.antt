@@ -20,7 +20,8 @@ invariant-turns g l = record {
   is_sound : All g.L.Link.sound l.fn.links → All g.L.Link.sound l.links;
   goes :
       (ws : List Wire) → AllTell (map g.L.Link.told l.fn.links) ws
-      → Going g.M.Master.model (machine_start Cause l.fn.end.clear.master (length l.fn.links) l.fn.end.clear.plan) (said_on ws) l.end
+      → Going g.M.Master.model (machine_start Cause l.fn.end.clear.master (length l.fn.links) l.fn.end.clear.plan)
+      (said_on ws) l.end
       (map g.L.Link.told l.links);
 }
 
