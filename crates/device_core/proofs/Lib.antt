@@ -1,5 +1,4 @@
 pub mod Taking
-pub mod Buses
 pub mod Keeping
 mod Settling
-mod Padding
+mod Wants

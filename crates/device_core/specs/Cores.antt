@@ -15,7 +15,7 @@ use Rattle.cosim_model.specs.Sessions.{Session}
 use Rattle.ends_model.specs.declared.ends.OpenSync.{OpenSync}
 use Rattle.ends_model.specs.DeviceTurn.{DeviceEnd, Settling, Ends, Goes_on, device_takes}
 use Rattle.rp_packet.specs.declared.fault.Cause.{Cause}
-use Rattle.rp_packet.specs.Spelling.{Spells, packet_bytes}
+use Rattle.rp_packet.specs.Spelling.{packet_bytes}
 use Rattle.rp_session.specs.Tags.{peer_of_kind}
 use Rattle.device_core.specs.declared.fault.HearFault.{HearFault}
 use Rattle.device_core.specs.declared.fault.HearFault.TheVariants as hear
@@ -41,10 +41,6 @@ Hears d old new before after p (Err (hear.Session f)) =
     (record new.end { fault = Some (end_fault.Session f) } ≡ (device_takes d old.end (Valid p)).0)
     × ((device_takes d old.end (Valid p)).1 ≡ []) × (after ≡ before)
 Hears d old new before after p (Err hear.NoMemory) = (new ≡ old) × (after ≡ before)
-
--- a packet that was read from bytes
-abbrev pub IsRead : Packet → Type 0
-IsRead p = (b : List ℕ) × Spells p b
 
 -- What always holds of an end that keeps no fault: the device was brought to no later tick than that of the peer's
 -- latest request; the own request is the device's want; and an open sync is the peer's.

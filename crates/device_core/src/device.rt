@@ -1,13 +1,14 @@
 // A device end without received bytes.
 ghost use Rattle.std.specs.Prelude.{◌≡◌, ◌+◌, ◌*◌, ◌<◌, ◌≤◌, ◌++◌, true, false, Some, None, IfOk, IfErr, OnOk, OnErr};
 
-use crate::answers::{answer_by_code, answer_by_value, answer_sync, refuse_read};
+use crate::answers::{answer_by_value, answer_sync};
 use crate::fault::HearFault;
-use crate::replies::{bare_reply, reply_from};
+use crate::replies::reply_from;
 use crate::requests::{put_line, put_want};
 use cos_api::{Call, Calls, Device, plain};
 use cos_base::{NoMemory, Octets};
 use cosim_model::{Access, Answer, Event, Reply, Role, SessionFault, Ticket, Want};
+use end_answers::{answer_by_code, bare_reply, refuse_read};
 use end_packets::{BusPlace, access_of, is_served, put_packet};
 use ends_model::OpenSync;
 use rp_packet::{BusAccess, Packet};
@@ -87,7 +88,8 @@ impl<D: Device> DeviceCore<D> {
     ghost use Rattle.rp_busaccess.specs.Bits.{fields_of};
     ghost use Rattle.rp_packet.specs.Spelling.{packet_bytes};
     ghost use Rattle.rp_packet.specs.Values.{value_of};
-    ghost use Rattle.device_core.specs.Cores.{Does, Hears, IsRead, IsTaken, Settled, spelled};
+    ghost use Rattle.end_answers.specs.Packets.{IsRead};
+    ghost use Rattle.device_core.specs.Cores.{Does, Hears, IsTaken, Settled, spelled};
 
     /// An end that has sent and taken nothing. `offer` is what its hello offers, and `answered_lines` says whether it sends a line so
     /// that it is answered, where that is in common.

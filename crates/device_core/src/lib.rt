@@ -10,7 +10,5 @@ mod fault;
 mod replies;
 mod requests;
 
-pub use answers::{answer_by_code, put_read_answer, refuse_read};
 pub use device::{DeviceCore, MOST_CALLS, MOST_SENT};
 pub use fault::HearFault;
-pub use replies::{bare_reply, padded};

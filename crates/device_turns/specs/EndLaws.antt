@@ -9,7 +9,7 @@ use Rattle.cosim_model.specs.Parts.{DeviceModel}
 use Rattle.cosim_model.specs.Packets.{Decoded, spell}
 use Rattle.cosim_model.specs.Packets.Decoded.{Valid, Malformed}
 use Rattle.cosim_model.specs.Streams.{HasTaken}
-use Rattle.cosim_model.proofs.Streams.{one_more, still_first, still_malformed}
+use Rattle.cosim_model.proofs.Streams.{one_more, still_first}
 use Rattle.rp_packet.specs.CodecLaws.{codec-laws}
 use Rattle.rp_packet.specs.Reading.{fault_at}
 use Rattle.cosim_model.specs.Sessions.{hello_of, hello_sent}
@@ -22,8 +22,9 @@ use Rattle.rp_framing.specs.Framing.{counted}
 use Rattle.rp_packet.specs.declared.fault.Cause.{Cause}
 use Rattle.rp_packet.specs.Refusals.{first}
 use Rattle.rp_packet.specs.Streams.{packet_codec}
+use Rattle.end_answers.specs.Faults.{IsPlaced, placed-longer}
 use Rattle.device_turns.specs.Runs.{Taking, IsRun, IsWholeRun}
-use Rattle.device_turns.specs.Ends.{End, Fault, Goes, IsTurn, Turns, Feeds, FedAt, GoesOn, RunsOn, HasRun, IsPlaced, HasSentAll, SendsAll, answer_of, core_of, fresh, kept_cause, moves, turn_of}
+use Rattle.device_turns.specs.Ends.{End, Fault, Goes, IsTurn, Turns, Feeds, FedAt, GoesOn, RunsOn, HasRun, HasSentAll, SendsAll, answer_of, core_of, fresh, kept_cause, moves, turn_of}
 use Rattle.device_turns.specs.StepLaws.{some-is}
 use Rattle.device_turns.specs.RunLaws.{run-on, run-within, run-longer, whole-sends}
 
@@ -129,24 +130,16 @@ module _ {S : Type 0} (d : DeviceModel S) where
 
   -- Bytes come.
 
-  pub placed-longer : (x y : List ℕ) (k : Option Fault) → IsPlaced x k → IsPlaced (x ++ y) k
-  placed-longer x y None is = tt
-  placed-longer x y (Some (fault.Malformed f)) is =
-      (is.0, still_malformed packet_codec codec-laws.decided x y is.0 f.cause is.1, is.2)
-  placed-longer x y (Some (fault.Truncated a b)) is = tt
-  placed-longer x y (Some (fault.Session f)) is = tt
-  placed-longer x y (Some (fault.Ended n)) is = tt
-  placed-longer x y (Some (fault.TooMuch n)) is = tt
-  placed-longer x y (Some (fault.Link n)) is = tt
-  placed-longer x y (Some (fault.LateWant a b)) is = tt
-  placed-longer x y (Some (fault.Astray n)) is = tt
-  placed-longer x y (Some fault.NoMemory) is = tt
+  kept-longer : (x y : List ℕ) (k : Option Fault) → IsPlaced x k → IsPlaced (x ++ y) k
+  kept-longer x y None is = tt
+  kept-longer x y (Some f) is = placed-longer x y f is
 
   packets-longer : (x y : List ℕ) (n : ℕ) → HasTaken packet_codec x n None → HasTaken packet_codec (x ++ y) n None
   packets-longer x y n is = (is.0, (still_first packet_codec codec-laws.decided is.0 n x y is.1).1)
 
   fed-placed : (x bytes : List ℕ) (old new : End S) → new.kept ≡ old.kept → IsPlaced x old.kept → IsPlaced (x ++ bytes) new.kept
-  fed-placed x bytes old new same is = subst (λ (k : Option Fault). IsPlaced (x ++ bytes) k) (sym same) (placed-longer x bytes old.kept is)
+  fed-placed x bytes old new same is =
+      subst (λ (k : Option Fault). IsPlaced (x ++ bytes) k) (sym same) (kept-longer x bytes old.kept is)
 
   fed-run : (start : DeviceEnd S Cause) (x bytes sent : List ℕ) (old new : End S) (k : Option Fault) → old.kept ≡ k
       → FedAt k bytes old new → HasRun d start x sent old → HasRun d start (x ++ bytes) sent new

@@ -7,7 +7,7 @@ use Rattle.cosim_model.specs.declared.session.EndFault.TheVariants as fault
 use Rattle.cosim_model.specs.Packets.{Packet}
 use Rattle.cosim_model.specs.Packets.Decoded.{Valid, Malformed}
 use Rattle.cosim_model.specs.Parts.{DeviceModel}
-use Rattle.cosim_model.specs.Streams.{HasTaken, IsMalformedAt}
+use Rattle.cosim_model.specs.Streams.{HasTaken}
 use Rattle.ends_model.specs.declared.ends.DeviceTurn.{DeviceTurn}
 use Rattle.ends_model.specs.declared.ends.DeviceTurn.TheVariants as turn
 use Rattle.ends_model.specs.Answers.{device_answer}
@@ -25,24 +25,14 @@ use Rattle.rp_packet.specs.declared.fault.PacketFault.{PacketFault}
 use Rattle.rp_packet.specs.Reading.{fault_at}
 use Rattle.rp_packet.specs.Refusals.{first}
 use Rattle.rp_packet.specs.Streams.{packet_codec}
+use Rattle.end_answers.specs.Faults.{IsPlaced, cause_of}
 use Rattle.device_turns.specs.Runs.{Taking, IsRun, out_device}
 
 -- A fault as it is told, with the place of a malformed packet.
 abbrev pub Fault : Type 0
 Fault = EndFault PacketFault
 
--- the same without that place
-abbrev pub cause_of : Fault → EndFault Cause
-cause_of (fault.Malformed f) = fault.Malformed f.cause
-cause_of (fault.Truncated start held) = fault.Truncated start held
-cause_of (fault.Session f) = fault.Session f
-cause_of (fault.Ended taken) = fault.Ended taken
-cause_of (fault.TooMuch taken) = fault.TooMuch taken
-cause_of (fault.Link count) = fault.Link count
-cause_of (fault.LateWant at got) = fault.LateWant at got
-cause_of (fault.Astray cmd) = fault.Astray cmd
-cause_of fault.NoMemory = fault.NoMemory
-
+-- what is kept, without that place
 abbrev pub kept_cause : Option Fault → Option (EndFault Cause)
 kept_cause kept = option_map cause_of kept
 
@@ -152,12 +142,6 @@ moves (Ok turn.NotYet) = false
 moves (Ok turn.Greeted) = true
 moves (Ok turn.Took) = true
 moves (Err f) = true
-
--- A malformed packet that an end tells stands behind packets, at the place that is told.
-abbrev pub IsPlaced : List ℕ → Option Fault → Type 0
-IsPlaced received (Some (fault.Malformed f)) =
-    (start : ℕ) × IsMalformedAt packet_codec received start f.cause × (f ≡ fault_at (counted start) f.cause)
-IsPlaced received kept = Unit {0}
 
 -- An end that was fed these bytes in all, however they were cut, and whose turns sent these: it stands within the run
 -- of a device end over them.

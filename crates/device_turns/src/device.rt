@@ -39,7 +39,7 @@ impl<D: Device> DeviceEnd<D> {
     ghost use Rattle.rp_packet.specs.Refusals.{first};
     ghost use Rattle.rp_packet.specs.Spelling.{Spells};
     ghost use Rattle.rp_packet.specs.Values.{value_of};
-    ghost use Rattle.device_core.specs.Cores.{IsRead};
+    ghost use Rattle.end_answers.specs.Packets.{IsRead};
     ghost use Rattle.device_turns.specs.Ends.{Fault, fresh, Feeds, GoesOn, IsWaiting, Pulls, RunsOn, SendsAll, Turns, answer_of, is_clean, kept_after, moves};
     ghost use Rattle.rp_framing.specs.Receiving.{ReceiveCounts, ReceiveSound};
 

@@ -15,8 +15,9 @@ use Rattle.rp_framing.specs.Receiving.{Came, CameAll, CamePartly}
 use Rattle.rp_framing.specs.Sending.{Sends}
 use Rattle.rp_framing.specs.declared.sender.SendFault.{SendFault}
 use Rattle.rp_packet.specs.declared.fault.Cause.{Cause}
+use Rattle.end_answers.specs.Faults.{IsPlaced}
 use Rattle.device_turns.specs.Runs.{Taking, IsWholeRun, out_device}
-use Rattle.device_turns.specs.Ends.{End, Fault, GoesOn, FedAt, HasRun, IsPlaced, IsWaiting, Turns, core_of, is_clean, kept_cause}
+use Rattle.device_turns.specs.Ends.{End, Fault, GoesOn, FedAt, HasRun, IsWaiting, Turns, core_of, is_clean, kept_cause}
 use Rattle.device_turns.specs.RunLaws.{out-grows, run-prefix, run-within, whole-sends}
 use Rattle.device_turns.specs.EndLaws.{call-runs, feeds-run, waits-clear, waits-whole, kept-whole}
 use Rattle.end_device.specs.Talk.{EndsSo, HasParts}

@@ -14,10 +14,10 @@ use Rattle.ends_model.specs.Traffic as traffic
 use Rattle.process_network.specs.PacketStar.{leaf_turn_by}
 use Rattle.rp_packet.specs.declared.fault.Cause.{Cause}
 use Rattle.rp_packet.specs.Streams.{packet_codec}
+use Rattle.end_answers.specs.Faults.{placed-longer}
 use Rattle.device_turns.specs.Runs.{Taking, IsWholeRun, out_device}
 use Rattle.device_turns.specs.Ends.{Fault}
 use Rattle.device_turns.specs.RunLaws.{out-grows, run-longer, whole-sends}
-use Rattle.device_turns.specs.EndLaws.{placed-longer}
 use Rattle.end_device.specs.Talk.{EndsSo, TalkEnds, ByTalk, IsByTalk}
 use Rattle.end_device.specs.Serving.{EndsThere, RefusesThere, Leaves, Serves, Tells}
 
@@ -88,7 +88,7 @@ module _ {S : Type 0} (d : DeviceModel S) (start : DeviceEnd S Cause) where
   leaves-talk said e (Err (fault.Truncated a b)) now grows left = fixed-talk said e (Err (fault.Truncated a b)) now grows left
   leaves-talk said e (Err (fault.Malformed f)) now grows left =
       stuck-talk said e (fault.Malformed f) (fault.Malformed f.cause) now grows (λ l x is. is.0)
-      (λ l x y is. (is.0, placed-longer d x y (Some (fault.Malformed f)) is.1)) left
+      (λ l x y is. (is.0, placed-longer x y (fault.Malformed f) is.1)) left
   leaves-talk said e (Err (fault.Session f)) now grows left =
       stuck-talk said e (fault.Session f) (fault.Session f) now grows (λ l x is. is) (λ l x y is. is) left
   leaves-talk said e (Err (fault.TooMuch taken)) now grows (n, told, there) = record {

@@ -7,8 +7,9 @@ use Rattle.cosim_model.specs.declared.session.EndFault.TheVariants as fault
 use Rattle.cosim_model.specs.Parts.{DeviceModel}
 use Rattle.ends_model.specs.DeviceTurn.{DeviceEnd}
 use Rattle.rp_packet.specs.declared.fault.Cause.{Cause}
+use Rattle.end_answers.specs.Faults.{IsPlaced}
 use Rattle.device_turns.specs.Runs.{Taking, IsWholeRun, out_device}
-use Rattle.device_turns.specs.Ends.{Fault, IsPlaced, is_clean}
+use Rattle.device_turns.specs.Ends.{Fault, is_clean}
 
 -- The end took every turn that it could over the received bytes, and no more come: it ends so. An input ends well
 -- where the end is clean and has taken all; within a packet it ends in Truncated, and else in Ended. A malformed

@@ -21,10 +21,9 @@ use Rattle.ends_model.specs.World.{machine_start}
 use Rattle.rp_packet.specs.declared.fault.Cause.{Cause}
 use Rattle.rp_packet.specs.declared.fault.PacketFault.{PacketFault}
 use Rattle.rp_packet.specs.Streams.{packet_codec}
-use Rattle.device_turns.specs.Ends.{IsPlaced}
+use Rattle.end_answers.specs.Faults.{IsPlaced, placed-longer}
 use Rattle.machine_turns.specs.declared.fault.TurnFault.{TurnFault}
 use Rattle.machine_turns.specs.declared.fault.TurnFault.TheVariants as turn_fault
-use Rattle.machine_turns.specs.RunLaws.{placed-longer}
 use Rattle.machine_turns.specs.Runs.{Rests, Taking, machine_alone}
 use Rattle.end_machine.specs.Wires.{Said, received_of, received_on, said_of, said_on, sent_of, sent_on}
 use Rattle.end_machine.specs.Talk.{ByTalk, EndsSo, FailsSo, TalkEnds}

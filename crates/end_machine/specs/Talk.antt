@@ -14,7 +14,7 @@ use Rattle.rp_framing.specs.Framing.{counted}
 use Rattle.rp_packet.specs.declared.fault.Cause.{Cause}
 use Rattle.rp_packet.specs.declared.fault.PacketFault.{PacketFault}
 use Rattle.rp_packet.specs.Streams.{packet_codec}
-use Rattle.device_turns.specs.Ends.{IsPlaced}
+use Rattle.end_answers.specs.Faults.{IsPlaced}
 use Rattle.machine_turns.specs.declared.fault.TurnFault.{TurnFault}
 use Rattle.machine_turns.specs.declared.fault.TurnFault.TheVariants as turn_fault
 use Rattle.machine_turns.specs.Runs.{IsRun, Rests, Taking, machine_alone}

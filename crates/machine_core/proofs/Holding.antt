@@ -14,7 +14,7 @@ use Rattle.cosim_model.specs.Packets.{Body, Packet, BusFields, code_of, is_respo
 use Rattle.cosim_model.specs.Packets.Body.{Nop, Hello, Cfg, Read, Write, Interrupt, Sync}
 use Rattle.cosim_model.specs.Sessions.{Session, or_else, fault_if, fault_of, flood, hello_missing, hello_again, wrong_version, hello_lacks, unsupported, stray_answer, wrong_answer, wrong_len, is_answer_of, not_in_common, time_backwards, early_posted, second_request, is_posted, is_posted_body, is_taken, asked_at, event_of, counted, judged, take_kept, take_packet, hello_sent, begin_wait, request_sent, unless_posted, awaiting}
 use Rattle.ends_model.specs.MachineTurn.{PortEnd}
-use Rattle.device_core.specs.Cores.{IsRead}
+use Rattle.end_answers.specs.Packets.{IsRead}
 use Rattle.machine_core.specs.Ports.{IsHeld, IsPort, IsServed, IsTakenOr, Keeps, Fits}
 
 -- What a step of the own side leaves as it is.

@@ -9,7 +9,7 @@ use Rattle.cosim_model.specs.Packets.{Body, Packet, code_of, is_response}
 use Rattle.cosim_model.specs.Packets.Body.{Nop, Hello, Cfg, Read, Write, Interrupt, Sync}
 use Rattle.cosim_model.specs.Sessions.{Session, is_posted, ticket_of}
 use Rattle.ends_model.specs.MachineTurn.{PortEnd}
-use Rattle.device_core.specs.Cores.{IsRead}
+use Rattle.end_answers.specs.Packets.{IsRead}
 
 -- the requests that a machine serves
 abbrev pub IsServed : Body → Type 0

@@ -3,7 +3,7 @@ ghost use Rattle.std.specs.Prelude.{◌≡◌, ◌≤◌, true, length};
 ghost use Rattle.cosim_model.specs.Packets.{code_of, is_response};
 ghost use Rattle.cosim_model.specs.Packets.Body.{Read};
 ghost use Rattle.cosim_model.specs.Values.{plain as plain_answer};
-ghost use Rattle.device_core.specs.Cores.{IsRead};
+ghost use Rattle.end_answers.specs.Packets.{IsRead};
 ghost use Rattle.ends_model.specs.MachineTurn.{answer_from};
 ghost use Rattle.rp_busaccess.specs.Bits.{fields_of};
 ghost use Rattle.rp_packet.specs.Values.{value_of as packet_value};

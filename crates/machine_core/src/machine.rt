@@ -76,7 +76,7 @@ impl<M: Master> MachineCore<M> {
     ghost use Rattle.ends_model.specs.MachineTurn.{PortEnd, machine_acts, at_port, greets, syncs, runs, works, accesses, finished, gathers, serves_held, met, answered, hold_request, machine_takes, first_true, is_unknown, is_due as is_boundary, is_last as is_end};
     ghost use Rattle.cosim_model.specs.Packets.Decoded.{Valid};
     ghost use Rattle.cosim_model.specs.Parts.{IsAccess};
-    ghost use Rattle.device_core.specs.Cores.{IsRead};
+    ghost use Rattle.end_answers.specs.Packets.{IsRead};
     ghost use Rattle.rp_packet.specs.Values.{value_of};
     ghost use Rattle.rp_packet.specs.declared.fault.Cause.{Cause};
     ghost use Rattle.machine_core.specs.Machines.{Acts, ActsBy, Becomes, Does, Hears, MayAnswer, MayHold, Took, awaited, is_late};

@@ -58,7 +58,7 @@ impl MachinePort {
     ghost use Rattle.cosim_model.specs.Values.{all_caps, no_caps};
     ghost use Rattle.cosim_model.specs.declared.session.Role.TheVariants.{Machine};
     ghost use Rattle.ends_model.specs.MachineTurn.{access_body, greeted, held_time, is_clear, is_unknown, requested, with_wait};
-    ghost use Rattle.device_core.specs.Cores.{IsRead};
+    ghost use Rattle.end_answers.specs.Packets.{IsRead};
     ghost use Rattle.rp_packet.specs.Spelling.{packet_bytes};
     ghost use Rattle.machine_core.specs.declared.fault.HearFault.TheVariants as hear;
     ghost use Rattle.machine_core.specs.Ports.{IsHeld, IsTakenOr, Keeps};

@@ -20,7 +20,7 @@ use crate::lanes::{are_all_enabled, clear_disabled, mask_of};
 use cos_api::{Call, Calls, Master};
 use cos_base::{NoMemory, Octets};
 use cosim_model::{Command, Reply, Ticket, Want};
-use device_core::{answer_by_code, bare_reply, padded, put_read_answer, refuse_read};
+use end_answers::{answer_by_code, bare_reply, padded, put_read_answer, refuse_read};
 use end_packets::{BusPlace, put_packet};
 use ends_model::Turn;
 use rp_control::Interrupt;

@@ -26,7 +26,7 @@ use Rattle.rp_framing.specs.declared.receiver.ReceiveFault.{ReceiveFault}
 use Rattle.rp_framing.specs.declared.receiver.ReceiveFault.TheVariants as receive
 use Rattle.rp_packet.specs.Reading.{fault_at}
 use Rattle.cosim_model.specs.Streams.{HasTaken}
-use Rattle.device_turns.specs.Ends.{IsPlaced, cause_of}
+use Rattle.end_answers.specs.Faults.{IsPlaced, cause_of}
 use Rattle.machine_turns.specs.Runs.{Grown, IsRun, Rests, Taking, machine_alone}
 use Rattle.machine_core.specs.declared.fault.HearFault.{HearFault}
 use Rattle.machine_core.specs.declared.fault.HearFault.TheVariants as hear

@@ -12,20 +12,17 @@ use Rattle.process_network.specs.PacketStar.HubOutlook.{HubActs, HubWaits, HubHa
 use Rattle.process_network.specs.Star.{to_leaf}
 use Rattle.process_network.proofs.MovesAtPort.{get_set}
 use Rattle.process_network.proofs.PacketRuns.{ends_monotone}
-use Rattle.cosim_model.specs.declared.session.EndFault.{EndFault}
-use Rattle.cosim_model.specs.declared.session.EndFault.TheVariants as fault
 use Rattle.cosim_model.specs.Packets.{Decoded}
 use Rattle.cosim_model.specs.Parts.{MasterModel}
 use Rattle.cosim_model.specs.Streams.{HasTaken}
-use Rattle.cosim_model.proofs.Streams.{still_first, still_malformed}
+use Rattle.cosim_model.proofs.Streams.{still_first}
 use Rattle.ends_model.specs.MachineTurn.{MachineEnd, machine_outlook}
 use Rattle.rp_packet.specs.CodecLaws.{codec-laws}
 use Rattle.rp_packet.specs.declared.fault.Cause.{Cause}
-use Rattle.rp_packet.specs.declared.fault.PacketFault.{PacketFault}
 use Rattle.rp_packet.specs.Refusals.{first}
 use Rattle.rp_packet.specs.Streams.{packet_codec}
 use Rattle.rp_framing.specs.Framing.{counted}
-use Rattle.device_turns.specs.Ends.{IsPlaced}
+use Rattle.end_answers.specs.Faults.{IsPlaced, placed-longer}
 use Rattle.machine_turns.specs.declared.fault.PortFault.{PortFault}
 use Rattle.machine_turns.specs.Runs.{Grown, IsRun, Taking, machine_alone, only_at}
 use Rattle.machine_turns.specs.Ends.{End, HasRun, IsPlacedAt, Received, RunsOn, core_of, fed_at, fresh, held_at}
@@ -190,18 +187,6 @@ module _ {M : Type 0} (e : End M) (p : ℕ) (bytes : List ℕ) where
   fed-taken q = ap taken_in (fed-ports e p q bytes) ∙ taken-more (only_at p bytes q) (slice_get e.ports q)
 
 -- A place stays one over longer streams.
-
-pub placed-longer : (x y : List ℕ) (f : EndFault PacketFault) → IsPlaced x (Some f) → IsPlaced (x ++ y) (Some f)
-placed-longer x y (fault.Malformed f) is =
-    (is.0, still_malformed packet_codec codec-laws.decided x y is.0 f.cause is.1, is.2)
-placed-longer x y (fault.Truncated a b) is = tt
-placed-longer x y (fault.Session f) is = tt
-placed-longer x y (fault.Ended n) is = tt
-placed-longer x y (fault.TooMuch n) is = tt
-placed-longer x y (fault.Link n) is = tt
-placed-longer x y (fault.LateWant a b) is = tt
-placed-longer x y (fault.Astray n) is = tt
-placed-longer x y fault.NoMemory is = tt
 
 placed-below : (x y : Streams) (kept : Option PortFault) → Below x y → IsPlacedAt x kept → IsPlacedAt y kept
 placed-below x y None below is = tt

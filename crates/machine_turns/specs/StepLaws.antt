@@ -26,7 +26,7 @@ use Rattle.rp_packet.specs.Reading.{fault_at}
 use Rattle.rp_packet.specs.Refusals.{first}
 use Rattle.rp_packet.specs.Streams.{packet_codec}
 use Rattle.rp_framing.specs.Framing.{counted}
-use Rattle.device_turns.specs.Ends.{IsPlaced}
+use Rattle.end_answers.specs.Faults.{IsPlaced}
 use Rattle.machine_core.specs.Machines.{awaited}
 use Rattle.machine_turns.specs.declared.fault.PortFault.{PortFault}
 use Rattle.machine_turns.specs.Runs.{Taking, machine_alone, only_at}

@@ -43,7 +43,7 @@ impl<M: Master> MachineEnd<M> {
     ghost use Rattle.rp_packet.specs.declared.fault.Cause.{Cause};
     ghost use Rattle.rp_packet.specs.Refusals.{first};
     ghost use Rattle.rp_packet.specs.Values.{value_of};
-    ghost use Rattle.device_core.specs.Cores.{IsRead};
+    ghost use Rattle.end_answers.specs.Packets.{IsRead};
     ghost use Rattle.machine_core.specs.Machines.{awaited};
     ghost use Rattle.machine_turns.specs.declared.fault.PortFault.{PortFault};
     ghost use Rattle.machine_turns.specs.declared.fault.TurnFault.TheVariants as turn_fault;

@@ -1,7 +1,7 @@
 use Rattle.std.proofs.Common.{ap}
 use Rattle.rp_busaccess.specs.Bits.{fields_of}
 use Rattle.rp_packet.specs.Values.{value_of}
-use Rattle.device_core.proofs.Buses.{asked-write}
+use Rattle.end_answers.proofs.Buses.{asked-write}
 use Rattle.machine_core.proofs.services.serve_packet.Goals as goal
 
 pub serve_write-requires-clause-data : goal.serve_write-requires-clause-data

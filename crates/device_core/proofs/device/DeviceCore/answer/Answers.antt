@@ -1,7 +1,7 @@
 use Rattle.std.proofs.Common.{ap}
 use Rattle.rp_busaccess.specs.Bits.{fields_of}
 use Rattle.rp_packet.specs.Values.{value_of}
-use Rattle.device_core.proofs.Buses.{asked-write}
+use Rattle.end_answers.proofs.Buses.{asked-write}
 use Rattle.device_core.proofs.device.DeviceCore.answer.Goals as goal
 
 pub answer_write-requires-clause-data : goal.answer_write-requires-clause-data

@@ -1,4 +1,4 @@
-use Rattle.device_core.proofs.Padding.{want-sized}
+use Rattle.device_core.proofs.Wants.{want-sized}
 use Rattle.device_core.proofs.device.DeviceCore.ask.Goals as goal
 
 pub put_want-requires-clause-size : goal.put_want-requires-clause-size

@@ -3,8 +3,8 @@ use Rattle.std.proofs.lemmas.List.{take-replicate}
 use Rattle.cosim_model.specs.Sessions.{answer_of}
 use Rattle.rp_busaccess.specs.Bits.{fields_of}
 use Rattle.rp_packet.specs.Spelling.{packet_bytes}
-use Rattle.device_core.proofs.Padding.{zeros-sent}
-use Rattle.device_core.proofs.answers.refuse_by_zeros.Goals as goal
+use Rattle.end_answers.proofs.Padding.{zeros-sent}
+use Rattle.end_answers.proofs.answers.refuse_by_zeros.Goals as goal
 
 pub returns-clause-bytes : goal.returns-clause-bytes
 returns-clause-bytes c =

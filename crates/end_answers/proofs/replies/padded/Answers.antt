@@ -1,7 +1,7 @@
 use Rattle.std.proofs.Common.{ap, ◌∙◌, ◌-◌, ◌++◌, List, ℕ, length}
 use Rattle.std.specs.Prelude.{replicate}
-use Rattle.device_core.proofs.Padding.{front-padded}
-use Rattle.device_core.proofs.replies.padded.Goals as goal
+use Rattle.end_answers.proofs.Padding.{front-padded}
+use Rattle.end_answers.proofs.replies.padded.Goals as goal
 
 pub returns : goal.returns
 returns c = c.with_zeros.ensures

@@ -1,18 +1,14 @@
--- Bytes and then zeros, 64 in all; zeros that a refused read is answered with; and the sizes of wants.
-use Rattle.std.proofs.Common.{◌≡◌, inl, inr, ℕ, ◌-◌, ◌≤◌, Bool, true, false, if◌then◌else◌, List, [], ◌++◌, length, take, refl, sym, ap, ◌∙◌, arith}
+-- Bytes and then zeros, 64 in all; and zeros that a refused read is answered with.
+use Rattle.std.proofs.Common.{◌≡◌, inl, inr, ℕ, ◌-◌, ◌≤◌, Bool, true, false, if◌then◌else◌, List, [], ◌++◌, length}
+use Rattle.std.proofs.Common.{take, refl, sym, ap, ◌∙◌, arith}
 use Rattle.std.specs.Prelude.{min, nat_le, replicate}
 use Rattle.std.proofs.lemmas.Bool.Decides.{nat_tests, leb_tells}
 use Rattle.std.proofs.lemmas.List.{append-nil, length-replicate, length-take, take_all, take-append-le}
-use Rattle.cosim_model.specs.declared.values.Caps.{Caps}
-use Rattle.cosim_model.specs.declared.values.Want.{Want}
-use Rattle.cosim_model.specs.declared.values.Want.TheVariants.{Fetch, Store, Line}
 use Rattle.cosim_model.specs.Packets.{BusFields}
 use Rattle.cosim_model.specs.Packets.Body.{Read}
-use Rattle.cosim_model.specs.Parts.{IsWant}
 use Rattle.cosim_model.specs.Values.{padded}
 use Rattle.dev_line.specs.Chunks.{padded-is}
 use Rattle.ends_model.specs.DeviceTurn.{answer_fields, refused_read}
-use Rattle.device_core.specs.Cores.{HasSize}
 
 filled : (xs : List ℕ) (n : ℕ) → length xs ≡ n → n ≤ 64 → xs ++ replicate (64 - length xs) 0 ≡ padded xs
 filled xs n long few = sym (padded-is xs (omega arith))
@@ -51,10 +47,6 @@ refused-at : (t : Bool) (f : BusFields) → t ≡ true → Read (answer_fields f
 refused-at true f is = refl
 refused-at false f is = absurd (cc (is))
 
-pub refused-zeros : (f : BusFields) → f.len ≤ 4096 → Read (answer_fields f 1 f.len (replicate f.len 0)) ≡ refused_read f
+pub refused-zeros : (f : BusFields) → f.len ≤ 4096
+    → Read (answer_fields f 1 f.len (replicate f.len 0)) ≡ refused_read f
 refused-zeros f few = refused-at (nat_le f.len 4096) f (grind (arith, nat_tests))
-
-pub want-sized : (needs : Caps) (w : Want) → IsWant needs w → HasSize w
-want-sized needs (Fetch addr size) is = tt
-want-sized needs (Store addr size bytes mask) is = (is.1, is.4)
-want-sized needs (Line number level) is = tt

@@ -2,8 +2,8 @@ use Rattle.std.proofs.Common.{ap, ◌∙◌, ◌++◌}
 use Rattle.cosim_model.specs.Sessions.{answer_of}
 use Rattle.rp_busaccess.specs.Bits.{fields_of}
 use Rattle.rp_packet.specs.Spelling.{packet_bytes}
-use Rattle.device_core.proofs.Padding.{refused-zeros}
-use Rattle.device_core.proofs.answers.refuse_read.Goals as goal
+use Rattle.end_answers.proofs.Padding.{refused-zeros}
+use Rattle.end_answers.proofs.answers.refuse_read.Goals as goal
 
 pub returns-then-asked-le-MOST_ZEROS-clause-bytes :
     goal.returns-then-asked-le-MOST_ZEROS-clause-bytes

@@ -1,7 +1,7 @@
 use Rattle.std.proofs.Common.{ap, ◌∙◌, ◌++◌, List, ℕ, length, drop}
 use Rattle.std.specs.Prelude.{replicate}
 use Rattle.std.proofs.lemmas.List.{drop-replicate}
-use Rattle.device_core.proofs.replies.with_zeros.Goals as goal
+use Rattle.end_answers.proofs.replies.with_zeros.Goals as goal
 
 pub returns : goal.returns
 returns c =

@@ -1,6 +1,0 @@
-use Rattle.std.proofs.Common.{ap, ◌∙◌, take}
-use Rattle.device_core.proofs.Padding.{take-min}
-use Rattle.device_core.proofs.replies.front.Goals as goal
-
-pub returns-clause-front : goal.returns-clause-front
-returns-clause-front c = c.split_at.ensures.front ∙ ap (λ n. take n c.args.bytes.now) c.min.ensures ∙ take-min c.args.bytes.now
