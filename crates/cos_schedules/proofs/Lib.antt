@@ -1,0 +1,5 @@
+pub mod Texts
+pub mod Places
+pub mod Courses
+pub mod GivenRounds
+pub mod StarRounds

@@ -1,0 +1,5 @@
+pub mod Texts
+pub mod Schedules
+pub mod Courses
+pub mod Held
+pub mod Stars
