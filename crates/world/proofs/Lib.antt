@@ -1,1 +1,3 @@
 mod Seating
+mod Stepping
+mod Backing
