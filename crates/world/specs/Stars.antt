@@ -1,14 +1,17 @@
 -- The ends of a world as a star: the machine end is the hub, and the device end of a port is a leaf.
-use Rattle.std.specs.Prelude.{◌≡◌, ℕ, ◌≤◌, Bool, List, [], length, take, drop, map, get_or, slice_get, Option, Some, None}
-use Rattle.process_network.specs.PacketStar.{HubEnd, LeafEnd, star_of}
+use Rattle.std.specs.Prelude.{◌≡◌, ℕ, ◌<◌, ◌≤◌, Bool, true, false, List, [], ◌++◌, length, take, drop, map, get_or, set, slice_get, Option, Some, None}
+use Rattle.process_network.specs.PacketStar.{HubEnd, LeafEnd, fresh_hub, fresh_leaf, star_of}
 use Rattle.process_network.specs.Star.{Link, Star, StarStep, StarWorld, hub_received, leaf_received, leaf_turn_of}
-use Rattle.process_network.specs.Star.{new_link, star_after, star_effective}
+use Rattle.process_network.specs.Star.{new_link, star_after, star_effective, star_start}
 use Rattle.cosim_model.specs.Parts.{DeviceModel, MasterModel}
+use Rattle.ends_model.specs.declared.ends.Turn.{Turn}
+use Rattle.ends_model.specs.declared.ends.Turn.TheVariants as turn
 use Rattle.ends_model.specs.DeviceTurn.{DeviceEnd}
 use Rattle.ends_model.specs.MachineTurn.{MachineEnd}
 use Rattle.ends_model.specs.World.{ends}
 use Rattle.rp_packet.specs.declared.fault.Cause.{Cause}
 use Rattle.rp_packet.specs.Streams.{packet_codec}
+use Rattle.device_turns.specs.Ends.{End as DeviceTurns, core_of as device_core}
 use Rattle.machine_turns.specs.Ends.{End, Received, core_of}
 use Rattle.world.specs.Seats.{SeatValue, leaf_of}
 
@@ -68,3 +71,43 @@ module _ {M S : Type 0} (k : MasterModel M) (d : DeviceModel S) where
   pub record IsMoved (old new : Ends M S) (step : StarStep) (moved : Bool) : Type 0 where
     pub new_is : new ≡ star_after star old step
     pub moved_is : moved ≡ star_effective star old step
+
+-- What a turn of the machine end appends to the links, by what it answers.
+abbrev pub sent_links : List Link → Turn → List ℕ → List Link
+sent_links links (turn.Sent p) bytes =
+    set links p (record (get_or links p new_link) { out = (get_or links p new_link).out ++ bytes })
+sent_links links turn.Unit bytes = links
+sent_links links (turn.Took p) bytes = links
+sent_links links (turn.Served p) bytes = links
+sent_links links turn.Marked bytes = links
+sent_links links (turn.NotYet p) bytes = links
+sent_links links turn.Done bytes = links
+
+-- a port that is sent to is there, and the bytes have room
+abbrev pub IsSendable : ℕ → Turn → List ℕ → Type 0
+IsSendable ports (turn.Sent p) bytes = (p < ports) × (length bytes ≤ 4176)
+IsSendable ports turn.Unit bytes = Unit {0}
+IsSendable ports (turn.Took p) bytes = Unit {0}
+IsSendable ports (turn.Served p) bytes = Unit {0}
+IsSendable ports turn.Marked bytes = Unit {0}
+IsSendable ports (turn.NotYet p) bytes = Unit {0}
+IsSendable ports turn.Done bytes = Unit {0}
+
+-- whether the end moved
+abbrev pub is_move : Turn → Bool
+is_move (turn.Sent p) = true
+is_move turn.Unit = true
+is_move (turn.Took p) = true
+is_move (turn.Served p) = true
+is_move turn.Marked = true
+is_move (turn.NotYet p) = false
+is_move turn.Done = false
+
+-- Each of the first n has room for what a turn sends.
+abbrev pub HaveRoom : {S : Type 0} → ℕ → List (SeatValue S) → Type 0
+HaveRoom {S} n seats = (q : ℕ) (s : SeatValue S) → q < n → 4176 ≤ (get_or seats q s).room
+
+-- The ends before anything was sent.
+abbrev pub unsent : {M S : Type 0} → End M → List (DeviceTurns S) → Ends M S
+unsent {M} {S} e es =
+    star_start (fresh_hub (core_of e) (length es)) (map (λ (x : DeviceTurns S). fresh_leaf (device_core x)) es)
