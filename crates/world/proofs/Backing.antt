@@ -83,16 +83,16 @@ module _ {M S : Type 0} (k : MasterModel M) (d : DeviceModel S) (e new : End M) 
         → IsHub new (map (λ (s : SeatValue S). s.link) (set seats p later))
     back-keeps small =
         subst (λ (x : End M). IsHub x (map (λ (s : SeatValue S). s.link) (set seats p later))) (sym new-is) (
-          subst (λ ks. IsHub (record e { ports = set e.ports p (more piece received) }) ks)
-              (sym (map-set (λ (s : SeatValue S). s.link) seats p later)) (record {
-            clear = hub.clear;
-            size = length-set e.ports p (more piece received) ∙ hub.size ∙ sym (length-set links p later.link);
-            heard = set-both IsHeard links e.ports p later.link new_link (more piece received) nothing_received (sym hub.size)
-                (subst (λ k. IsHeard k (more piece received)) (sym link)
-                (heard-given old.link received piece count is heard-here
-                (subst (λ (k : Link). k.back_delivered ≤ 18446744073709551615) link small)))
-                hub.heard;
-          }))
+        subst (λ ks. IsHub (record e { ports = set e.ports p (more piece received) }) ks)
+        (sym (map-set (λ (s : SeatValue S). s.link) seats p later)) (record {
+          clear = hub.clear;
+          size = length-set e.ports p (more piece received) ∙ hub.size ∙ sym (length-set links p later.link);
+          heard = set-both IsHeard links e.ports p later.link new_link (more piece received) nothing_received (sym hub.size)
+              (subst (λ k. IsHeard k (more piece received)) (sym link)
+              (heard-given old.link received piece count is heard-here
+              (subst (λ (k : Link). k.back_delivered ≤ 18446744073709551615) link small)))
+              hub.heard;
+        }))
 
     delivered : old.link.back_delivered + length piece ≡ (back_given old.link count).back_delivered
     delivered = ap (λ n. old.link.back_delivered + n) (piece-size old.link received piece count is heard-here)

@@ -1,13 +1,17 @@
 -- The ends at the start.
 use Rattle.std.proofs.Common.{◌≡◌, ℕ, zero, suc, List, [], ◌∷◌, length, get_or, map, replicate, refl, sym, ap, ◌∙◌, subst, arith}
-use Rattle.std.specs.Prelude.{None}
+use Rattle.std.specs.Prelude.{All, None}
 use Rattle.std.proofs.lemmas.List.{length-map, length-replicate}
 use Rattle.process_network.specs.PacketStar.{fresh_leaf}
 use Rattle.process_network.specs.Star.{Link, new_link}
-use Rattle.device_turns.specs.Ends.{End as DeviceTurns, core_of as device_core, fresh as fresh_device}
+use Rattle.device_turns.specs.Ends.{End as DeviceTurns, core_of as device_core}
 use Rattle.machine_turns.specs.Ends.{End, Received, core_of, fresh as fresh_machine}
-use Rattle.world.specs.Seats.{SeatValue, leaf_of}
-use Rattle.world.specs.Stars.{IsHeard, IsHub, Leaf, ends_of, nothing_received, unsent}
+use Rattle.world.specs.Seats.{IsFresh, SeatValue, leaf_of}
+use Rattle.world.specs.Stars.{IsHeard, IsHub, ends_of, nothing_received, unsent}
+
+pub same-list : {A : Type 0} (xs : List A) → xs ≡ map (λ x. x) xs
+same-list [] = refl
+same-list (x ∷ xs) = ap (λ ys. x ∷ ys) (same-list xs)
 
 none-taken : (n : ℕ) → map (λ (r : Received). r.taken) (replicate n nothing_received) ≡ replicate n 0
 none-taken zero = refl
@@ -27,8 +31,21 @@ port-or zero p = refl
 port-or (suc n) zero = refl
 port-or (suc n) (suc p) = port-or n p
 
-fresh-taken : {S : Type 0} (e : DeviceTurns S) → e ≡ fresh_device e.clear → leaf_of e ≡ fresh_leaf (device_core e)
-fresh-taken e is = ap (λ n. record { core = device_core e; taken = n }) (ap (λ (x : DeviceTurns _). x.taken) is)
+fresh-leaf : {S : Type 0} (e : DeviceTurns S) → IsFresh e → leaf_of e ≡ fresh_leaf (device_core e)
+fresh-leaf {S} e is = ap (λ n. record { core = device_core e; taken = n }) (ap (λ (x : DeviceTurns S). x.taken) is.is)
+
+all-leaves : {S : Type 0} (es : List (DeviceTurns S)) → All IsFresh es
+    → map leaf_of es ≡ map (λ (x : DeviceTurns S). fresh_leaf (device_core x)) es
+all-leaves [] all = refl
+all-leaves {S} (e ∷ es) all =
+    let here = fresh-leaf e (all 0 e (omega arith)) in
+    let rest = all-leaves es (λ n x within. all (suc n) x (omega (arith, within))) in
+    λ i. here i ∷ rest i
+
+ends-leaves : {S : Type 0} (seats : List (SeatValue S))
+    → map (λ (s : SeatValue S). leaf_of s.end) seats ≡ map leaf_of (map (λ (s : SeatValue S). s.end) seats)
+ends-leaves [] = refl
+ends-leaves (s ∷ seats) = ap (λ ls. leaf_of s.end ∷ ls) (ends-leaves seats)
 
 module _ {M S : Type 0} (e : End M) (seats : List (SeatValue S)) (es : List (DeviceTurns S))
     (fresh : e ≡ fresh_machine e.clear (length es)) (ends : map (λ (s : SeatValue S). s.end) seats ≡ es)
@@ -49,4 +66,14 @@ module _ {M S : Type 0} (e : End M) (seats : List (SeatValue S)) (es : List (Dev
         (subst (λ rs. IsHeard (get_or (map (λ (x : DeviceTurns S). new_link) es) p new_link) (get_or rs p nothing_received)) (sym ports-are)
         (subst (λ k. IsHeard k (get_or (replicate (length es) nothing_received) p nothing_received)) (sym (link-or es p))
         (subst (λ r. IsHeard new_link r) (sym (port-or (length es) p)) nothing-heard)));
+  }
+
+  pub made-as : All IsFresh es → ends_of e seats ≡ unsent e es
+  made-as all = λ i. record {
+    hub = record {
+      core = core_of e;
+      taken = (ap (map (λ (r : Received). r.taken)) ports-are ∙ none-taken (length es)) i;
+    };
+    leaves = (ends-leaves seats ∙ ap (map leaf_of) ends ∙ all-leaves es all) i;
+    links = (links ∙ new-links (λ (x : DeviceTurns S). fresh_leaf (device_core x)) es) i;
   }

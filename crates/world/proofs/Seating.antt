@@ -99,7 +99,7 @@ module _ {S : Type 0} (d : DeviceModel S) where
         let size = long in
         let taken = is.taken in
         let step = (step-is d (leaf_of e) (take k.out_delivered k.out) (record { core = r.0.core; taken = e.taken + r.0.taken }, r.1)
-            (turn-is (Some r) at)).within in
+        (turn-is (Some r) at)).within in
         let most = step (omega (arith, size, taken)) in
         omega (arith, size, most)
 

@@ -124,11 +124,11 @@ module _ {M S : Type 0} (k : MasterModel M) (d : DeviceModel S) where
     pub no-leaf : (p : ℕ) → length seats ≤ p → (w : Ends M S) → now ≡ w → IsMoved k d w w (LeafTurn p) false
     no-leaf p past w is =
         subst (λ (w : Ends M S). IsMoved k d w w (LeafTurn p) false) is (
-          let none = ap (λ o. leaf_turn_of (star k d) o (leaf_received now p)) (past-get now.leaves p (past-leaves p past)) in
-          record {
-            new_is = sym (ap (after_leaf_turn now p) none);
-            moved_is = sym (ap (λ (o : Option (Leaf S × List ℕ)). is_some o) none);
-          })
+        let none = ap (λ o. leaf_turn_of (star k d) o (leaf_received now p)) (past-get now.leaves p (past-leaves p past)) in
+        record {
+          new_is = sym (ap (after_leaf_turn now p) none);
+          moved_is = sym (ap (λ (o : Option (Leaf S × List ℕ)). is_some o) none);
+        })
 
     idle : (n count : ℕ) → n ≡ 0 → false ≡ nat_lt 0 (0 + min count n)
     idle n count is = grind (arith, nat_tests, is)

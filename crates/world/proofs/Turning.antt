@@ -169,9 +169,9 @@ module _ {M S : Type 0} (k : MasterModel M) (d : DeviceModel S) (e : End M) (sea
   within : (r : After M) → turn_of k e ≡ Some r → (p : ℕ) → get_or (add taken r.0.taken) p 0 ≤ (link now p).back_delivered
   within r at p =
       let most = (packet_cursors (ends k d packet_codec) codec-laws.decided (core_of e) 0 []).hub_within (hub_of e) (hub_received now)
-          (record { core = r.0.core; taken = add taken r.0.taken }, r.1)
-          (λ q. let size = received-size q in let few = (is.heard q).taken in let n = taken-at q in omega (arith, size, few, n))
-          (turn-is ∙ ap (lifted taken) at) p in
+      (record { core = r.0.core; taken = add taken r.0.taken }, r.1)
+      (λ q. let size = received-size q in let few = (is.heard q).taken in let n = taken-at q in omega (arith, size, few, n))
+      (turn-is ∙ ap (lifted taken) at) p in
       let size = received-size p in
       omega (arith, most, size)
 
@@ -321,7 +321,7 @@ module _ {M S : Type 0} (k : MasterModel M) (d : DeviceModel S) (e : End M) (sea
       sendable-by p (Some r) at goes answers sound =
           let s = sends-to k fresh-hub (held_at e) (core_of e) whole (machine_acts k (core_of e)) p r answers at in
           let few = sound.few (record { core = r.0.core; taken = add taken r.0.taken }) p s.0
-              (turn-is ∙ ap (lifted taken) at ∙ ap (λ o. Some (record { core = r.0.core; taken = add taken r.0.taken }, o)) s.1) in
+          (turn-is ∙ ap (lifted taken) at ∙ ap (λ o. Some (record { core = r.0.core; taken = add taken r.0.taken }, o)) s.1) in
           let same = ap length (goes.2 ∙ ap (λ o. sent_by o) s.1) in
           omega (arith, few, same)
 
@@ -355,10 +355,10 @@ module _ {M S : Type 0} (k : MasterModel M) (d : DeviceModel S) (e : End M) (sea
           let counts = taken-is new after (Ok t) None took r at goes.1 took.keeps in
           record {
             new_is = (λ i. record {
-                  hub = record { core = goes.0 i; taken = counts i };
-                  leaves = leaves i;
-                  links = (sent ∙ links-by t r took.answers at goes.2) i;
-                })
+              hub = record { core = goes.0 i; taken = counts i };
+              leaves = leaves i;
+              links = (sent ∙ links-by t r took.answers at goes.2) i;
+            })
                 ∙ sym (ap (after_hub_turn now) all);
             moved_is = sym (ap (λ (o : Option (After M)). is_some o) all);
           }
@@ -375,9 +375,11 @@ module _ {M S : Type 0} (k : MasterModel M) (d : DeviceModel S) (e : End M) (sea
       → (w : Ends M S) → now ≡ w → IsSound k d w → IsSendable (length seats) t after
   sendable new after (turn.Sent p) took front w same sound =
       let size = is.size in
-      let long = length-map seats (λ (s : SeatValue S). s.link) in
-      (omega (arith, front, size, long), sendable-by new after (turn.Sent p) took p (turn_of k e) refl took.goes took.answers
-      (subst (λ (w : Ends M S). IsSound k d w) (sym same) sound))
+      let long = length-map seats (λ (s : SeatValue S). s.link) in (
+        omega (arith, front, size, long),
+        sendable-by new after (turn.Sent p) took p (turn_of k e) refl took.goes took.answers
+            (subst (λ (w : Ends M S). IsSound k d w) (sym same) sound),
+      )
   sendable new after turn.Unit took front w same sound = tt
   sendable new after (turn.Took p) took front w same sound = tt
   sendable new after (turn.Served p) took front w same sound = tt

@@ -1,3 +1,2 @@
 pub mod Seats
 pub mod Stars
-pub mod Worlds

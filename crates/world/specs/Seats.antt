@@ -5,7 +5,7 @@ use Rattle.process_network.specs.Star.{Link}
 use Rattle.cosim_model.specs.Parts.{DeviceModel}
 use Rattle.ends_model.specs.Traffic as traffic
 use Rattle.rp_packet.specs.Streams.{packet_codec}
-use Rattle.device_turns.specs.Ends.{End, core_of}
+use Rattle.device_turns.specs.Ends.{End, core_of, fresh}
 use Rattle.device_turns.specs.Runs.{Taking}
 
 -- `room` is how many more bytes to the device end are kept without asking for memory.
@@ -13,6 +13,10 @@ pub record SeatValue (S : Type 0) : Type 0 where
   pub end : End S
   pub link : Link
   pub room : ℕ
+
+-- an end that has taken no turn and received nothing
+pub record IsFresh {S : Type 0} (e : End S) : Type 0 where
+  pub is : e ≡ fresh e.clear
 
 -- the device end as a leaf
 abbrev pub leaf_of : {S : Type 0} → End S → Taking S

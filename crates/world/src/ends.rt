@@ -1,8 +1,7 @@
 // The ends of a world, with what was sent among them.
 ghost use Rattle.std.specs.Prelude.{◌≡◌, All, IfOk, OnOk, length, map};
 ghost use Rattle.process_network.specs.Star.{new_link};
-ghost use Rattle.device_turns.specs.Ends.{fresh};
-ghost use Rattle.world.specs.Seats.{leaf_of};
+ghost use Rattle.world.specs.Seats.{IsFresh, leaf_of};
 ghost use Rattle.world.specs.Stars.{HaveRoom, IsSendable, is_move, sent_links};
 
 use crate::seat::Seat;
@@ -19,8 +18,11 @@ use std::marker::Model;
 const MOST_SENT: usize = 4176;
 
 /// A seat for each device end.
-fn make_seats<D: Device>(alloc: Global, devices: Vec<DeviceEnd<D>>) -> Result<Vec<Seat<D>>, NoMemory>
-    requires { All (λ e. e ≡ fresh e.clear) devices.items }
+fn make_seats<D: Device>(
+    alloc: Global,
+    devices: Vec<DeviceEnd<D>>,
+) -> Result<Vec<Seat<D>>, NoMemory>
+    requires { All IsFresh devices.items }
     ensures ends { IfOk result (λ seats. map (λ s. s.end) seats.items ≡ devices.items) }
     ensures links { IfOk result (λ seats. map (λ s. s.link) seats.items ≡ map (λ e. new_link) devices.items) }
 {
@@ -109,15 +111,18 @@ impl<M: Master, D: Device> Ends<M, D> {
     ghost use Rattle.std.specs.Prelude.{OnErr};
     ghost use Rattle.process_network.specs.Star.StarStep.{HubTurn, LeafTurn, DeliverOut, DeliverBack};
     ghost use Rattle.cos_schedules.specs.Stars.{star_step};
-    ghost use Rattle.device_turns.specs.Ends.{fresh as fresh_device};
     ghost use Rattle.machine_turns.specs.Ends.{fresh as fresh_machine};
     ghost use Rattle.world.specs.Stars.{IsMoved, IsSound, hub_of, unsent};
 
     /// Ends of which none has taken a turn or received anything.
-    pub fn make(alloc: Global, machine: MachineEnd<M>, devices: Vec<DeviceEnd<D>>) -> Result<Ends<M, D>, NoMemory>
+    pub fn make(
+        alloc: Global,
+        machine: MachineEnd<M>,
+        devices: Vec<DeviceEnd<D>>,
+    ) -> Result<Ends<M, D>, NoMemory>
         requires machine { machine ≡ fresh_machine machine.clear (length devices.items) }
-        requires devices { All (λ e. e ≡ fresh_device e.clear) devices.items }
-        ensures { IfOk result (λ ends. ends ≡ unsent machine devices.items) }
+        requires devices { All IsFresh devices.items }
+        ensures unsent { IfOk result (λ ends. ends ≡ unsent machine devices.items) }
     {
         let seats = match make_seats(alloc, devices) {
             Ok(seats) => seats,

@@ -44,12 +44,11 @@ impl<D: Device> Model for Seat<D> {
 impl<D: Device> Seat<D> {
     ghost use Rattle.std.specs.Prelude.{◌≡◌, ◌+◌, ◌≤◌, ◌++◌, length, take, drop, IfOk, OnOk, OnErr};
     ghost use Rattle.process_network.specs.Star.{new_link};
-    ghost use Rattle.device_turns.specs.Ends.{fresh};
-    ghost use Rattle.world.specs.Seats.{SeatTurns, SeatGiven, IsSoundSeat, back_given};
+    ghost use Rattle.world.specs.Seats.{IsFresh, IsSoundSeat, SeatGiven, SeatTurns};
 
     /// A seat on whose port nothing was sent.
     pub fn make(alloc: Global, end: DeviceEnd<D>) -> Seat<D>
-        requires { end ≡ fresh end.clear }
+        requires { IsFresh end }
         ensures end { result.end ≡ end }
         ensures link { result.link ≡ new_link }
     {
