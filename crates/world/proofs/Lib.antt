@@ -1,0 +1,6 @@
+mod Seating
+mod Stepping
+mod Backing
+mod Turning
+mod Rooming
+mod Making
