@@ -1,5 +1,5 @@
 #!/usr/bin/env python3
-"""Refuses each growth of memory of the built program in turn, and says how many were refused.
+"""Refuses each growth of memory of the built programs in turn, and says how many were refused.
 
 A small library, made here with the C compiler and loaded before the C library's own functions, counts the calls that ask for memory and
 refuses the one with a given number. Each run then has to end with 6 and its line, or with the status, all bytes and all files of a run
@@ -14,9 +14,9 @@ import subprocess
 import sys
 import tempfile
 
-from support.configuration import config
+from support.configuration import config, device, script_machine
 from support.machine import RAM, SECONDS, Closed, Machine, Unlawful, accepted, left_in, started, written
-from support.program import PROGRAM, built, check, failures, told
+from support.program import MEMORY_RUN, PROGRAM, built, check, failures, told
 
 MOST = 400
 
@@ -64,6 +64,13 @@ void *aligned_alloc(size_t align, size_t size) {
 
 DMA = {"c": config(("dma", 'line = 2\nsocket = "s"'))}
 DISK = {"c": config(("disk", 'line = 2\ndisk = "disk"\nresult = "out"\nsocket = "s"')), "disk": bytes(512), "out": b"what was there before"}
+
+# a machine that does what a script says, with a timer and a DMA that copies a chunk
+MACHINE = {
+    "c": script_machine(40) + device("timer", 0) + device("dma", 1),
+    "s": "write 0 0x4 4 0x3\nwrite 0 0x8 4 0x1\nwrite 1 0x0 4 0x80000000\nwrite 1 0x4 4 0x80000800\nwrite 1 0x8 4 0x41\n"
+    "write 1 0x10 4 0x3\nwait 8\nread 1 0x14 4\n",
+}
 
 
 def sets(machine, *settings):
@@ -130,6 +137,21 @@ def listed(environment):
     return done.returncode, done.stderr, done.stdout, {}
 
 
+def driven(files):
+    """The same of a machine's end that is driven in memory over its devices' ends. The program of tests prints its one line behind what it
+    printed."""
+
+    def run(environment):
+        with tempfile.TemporaryDirectory() as folder:
+            written(folder, files)
+            words = [MEMORY_RUN, "config", "c", "0"]
+            done = subprocess.run(words, cwd=folder, env=environment, capture_output=True, timeout=SECONDS, check=False)
+            line = b"NoMemory\n" if done.returncode == 6 and done.stdout.endswith(b"NoMemory\n") else b""
+            return done.returncode, b"cosim: no memory\n" if line else b"", done.stdout.removesuffix(line), {}
+
+    return run
+
+
 def refuse_each(row, run, shim, before):
     """How many growths were refused, until a run asks for no more. A run that is refused one leaves the files as before or as a whole run
     does."""
@@ -153,6 +175,7 @@ def refuse_each(row, run, shim, before):
 
 def main():
     built()
+    built(MEMORY_RUN, "memory_run")
     compiler = shutil.which("cc") or shutil.which("gcc")
     if compiler is None:
         print("refused_growths: no C compiler here, skipped")
@@ -167,6 +190,7 @@ def main():
             ("device timer", served(["timer", "3"], sets_a_timer), {}),
             ("a DMA's device", served(["c", "0"], copies, DMA), DMA),
             ("a disk's device", served(["c", "0"], stores, DISK), DISK),
+            ("a machine over its devices", driven(MACHINE), {}),
             ("help", listed, {}),
         ]:
             print(f"refused_growths: {refuse_each(row, run, shim, files)} growths of {row} were refused in turn")
