@@ -67,9 +67,9 @@ DISK = {"c": config(("disk", 'line = 2\ndisk = "disk"\nresult = "out"\nsocket = 
 
 # a machine that does what a script says, with a timer and a DMA that copies a chunk
 MACHINE = {
-    "c": script_machine(40) + device("timer", 0) + device("dma", 1),
-    "s": "write 0 0x4 4 0x3\nwrite 0 0x8 4 0x1\nwrite 1 0x0 4 0x80000000\nwrite 1 0x4 4 0x80000800\nwrite 1 0x8 4 0x41\n"
-    "write 1 0x10 4 0x3\nwait 8\nread 1 0x14 4\n",
+    "c": (script_machine(40) + device("timer", 0) + device("dma", 1)).encode(),
+    "s": b"write 0 0x4 4 0x3\nwrite 0 0x8 4 0x1\nwrite 1 0x0 4 0x80000000\nwrite 1 0x4 4 0x80000800\nwrite 1 0x8 4 0x41\n"
+    b"write 1 0x10 4 0x3\nwait 8\nread 1 0x14 4\n",
 }
 
 
@@ -138,16 +138,18 @@ def listed(environment):
 
 
 def driven(files):
-    """The same of a machine's end that is driven in memory over its devices' ends. The program of tests prints its one line behind what it
-    printed."""
+    """The same of a machine's end that is driven in memory over its devices' ends. The program of tests prints why it ended behind what it
+    printed; where it has no room for its words, it says that they aren't right."""
 
     def run(environment):
         with tempfile.TemporaryDirectory() as folder:
             written(folder, files)
             words = [MEMORY_RUN, "config", "c", "0"]
             done = subprocess.run(words, cwd=folder, env=environment, capture_output=True, timeout=SECONDS, check=False)
-            line = b"NoMemory\n" if done.returncode == 6 and done.stdout.endswith(b"NoMemory\n") else b""
-            return done.returncode, b"cosim: no memory\n" if line else b"", done.stdout.removesuffix(line), {}
+            for status, line in ((6, b"NoMemory\n"), (1, b"Words\n")):
+                if done.returncode == status and done.stdout.endswith(line):
+                    return 6, b"cosim: no memory\n", done.stdout.removesuffix(line), {}
+            return done.returncode, b"", done.stdout, {}
 
     return run
 
