@@ -1,7 +1,7 @@
 //! A machine end over a link in memory, to be timed. `bench_machine round_trips RUNS` has so many fresh machines read a
-//! timer's register 10,000 times each, over a link to a timer's end. `bench_machine units N` drives one machine for so many
-//! units of a tight loop beside such a link, and `bench_machine direct N` runs the same units without packets. It prints
-//! the units and the calls of all runs, and pc, x2 and x3 at the end of the last.
+//! timer's register 10,000 times each, over a link to a timer's end. `bench_machine units N` drives one machine for so
+//! many units of a tight loop beside such a link, and `bench_machine direct N` runs the same units without packets. It
+//! prints the units and the calls of all runs, and pc, x2 and x3 at the end of the last.
 #![tactic(auto)]
 
 mod driven;
