@@ -1,7 +1,7 @@
 #!/bin/sh
 # Round trips per second of a machine's end that is driven over a link in memory to a timer's end, beside the same in
-# plain Rust, and its local units per second beside `direct`, in one run: `bench/machine/run.sh [RUNS] [UNITS]`. A run is
-# 10,000 reads of a register, each three units, with a boundary each 1,000 units. It takes the best of five times of
+# plain Rust, and its local units per second beside `direct`, in one run: `bench/machine/run.sh [RUNS] [UNITS]`. A run
+# is 10,000 reads of a register, each three units, with a boundary each 1,000 units. It takes the best of five times of
 # each, by processor time, compares what both print, and prints a line for each with the ratio (1.0 is as fast as plain
 # Rust, or as `direct`; above is faster).
 set -eu
