@@ -1,5 +1,5 @@
-// A machine in plain Rust over the hart of ../hart.rs: RAM in pages that are made when they are first touched, the system block,
-// windows, and the hart changed in place.
+// A machine in plain Rust over the hart of ../hart.rs: RAM in pages that are made when they are first touched, the
+// system block, windows, and the hart changed in place.
 
 const BASE: u32 = 0x8000_0000;
 const PAGES: usize = 16;

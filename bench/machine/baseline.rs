@@ -1,5 +1,5 @@
-//! A machine's end over a link in memory to a timer's end, all in plain Rust: what the crate `bench_machine` times as `round_trips`, over
-//! the same program. `baseline RUNS`.
+//! A machine's end over a link in memory to a timer's end, all in plain Rust: what the crate `bench_machine` times as
+//! `round_trips`, over the same program. `baseline RUNS`.
 
 include!("../hart.rs");
 include!("../bus/machine.rs");

@@ -1,4 +1,5 @@
-// A machine end in plain Rust: it sends its master's accesses and a boundary's syncs, takes answers, and serves the requests of devices.
+// A machine end in plain Rust: it sends its master's accesses and a boundary's syncs, takes answers, and serves the
+// requests of devices.
 
 #[derive(Clone, Copy)]
 struct Plan {
