@@ -49,7 +49,7 @@ pub fn dis<F: Files, K: Sink>(
     ensures performs { Performs (DisComes file.now (F.told files.old)) (seen F.count F.told files.old files.new)
         (seen K.count K.told out.old out.new) (F.sound files.old × K.sound out.old) (K.room out.old) result }
     // It asks for its file, once.
-    ensures asks { AsksFor (λ m. file.now ∷ []) [] (asking F.told F.asked files.old files.new) result }
+    ensures asks { AsksFor (λ m. file.now ∷ []) (λ m. []) (asking F.told F.asked files.old files.new) result }
 {
     let image = read_file(files, file)?;
     if image.len() % 4 != 0 {

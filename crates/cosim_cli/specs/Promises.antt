@@ -48,7 +48,7 @@ pub record Around (L : Type 0) : Type 1 where
 -- A command over files ended by what it comes to, asked for the names that it reads and then for those that it writes,
 -- the status is that of how it ended, and the network is untouched.
 pub record Performed {L R : Type 0} (refused : R → Status) (Comes : Outcome R → Type 0) (reads : Names)
-    (writes : List (List ℕ)) (a : Around L) (s : Status) : Type 0 where
+    (writes : Names) (a : Around L) (s : Status) : Type 0 where
   pub result : Result Unit (Stop R)
   pub performs : Performs Comes a.files a.out (a.sound_files × a.sound_out) a.room result
   pub asks : AsksFor reads writes a.names result
@@ -89,12 +89,14 @@ abbrev pub Keeps : {L : Type 0} → Command → Around L → Status → Type 0
 Keeps (DeviceNull socket) a s = Served null_model null_start socket a s
 Keeps (DeviceTimer socket line) a s = Served timer_model (timer_start line) socket a s
 Keeps (DevicePort socket config port) a s = ServedPort socket config port a s
-Keeps (Show file) a s = Performed show_refused (OfFile file Shown a.files.old) (λ m. file ∷ []) [] a s
-Keeps (Pack file) a s = Performed pack_refused (OfFile file Packed a.files.old) (λ m. file ∷ []) [] a s
-Keeps (Asm file out) a s = Performed asm_refused (AsmComes file out a.files.old) (λ m. file ∷ []) (out ∷ []) a s
-Keeps (Dis file) a s = Performed dis_refused (DisComes file a.files.old) (λ m. file ∷ []) [] a s
-Keeps (Direct config) a s = Performed inputs_refused (DirectComes a.files.old config) (direct_names config) [] a s
-Keeps Help a s = Performed none_refused Helps (λ m. []) [] a s
+Keeps (Show file) a s = Performed show_refused (OfFile file Shown a.files.old) (λ m. file ∷ []) (λ m. []) a s
+Keeps (Pack file) a s = Performed pack_refused (OfFile file Packed a.files.old) (λ m. file ∷ []) (λ m. []) a s
+Keeps (Asm file out) a s =
+    Performed asm_refused (AsmComes file out a.files.old) (λ m. file ∷ []) (λ m. out ∷ []) a s
+Keeps (Dis file) a s = Performed dis_refused (DisComes file a.files.old) (λ m. file ∷ []) (λ m. []) a s
+Keeps (Direct config) a s =
+    Performed inputs_refused (DirectComes a.files.old config) (direct_names config) (λ m. []) a s
+Keeps Help a s = Performed none_refused Helps (λ m. []) (λ m. []) a s
 
 -- the words are those of a command, and it keeps its promise
 abbrev pub KeepsSome : {L : Type 0} → List (List ℕ) → Around L → Status → Type 0

@@ -30,7 +30,7 @@ use Rattle.cosim_inputs.specs.Reads.{AreRead, AreUnread, AreLacking}
 use Rattle.cosim_inputs.proofs.Reading.{told-first}
 use Rattle.cos_config.specs.Plans.{plan_of}
 use Rattle.cosim_direct.specs.Directs.{machine_of, or_printed, judged_to, found_to, DirectComes}
-use Rattle.cosim_direct.specs.Texts.{run_lines}
+use Rattle.run_texts.specs.Texts.{run_lines}
 
 -- the file of the configuration was judged this one
 abbrev pub IsOfFile : Option Store → List ℕ → Settings → Type 0

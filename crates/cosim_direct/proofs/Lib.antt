@@ -1,4 +1,3 @@
-pub mod Listed
-pub mod Printing
 pub mod Coming
 pub mod Naming
+pub mod RunParts

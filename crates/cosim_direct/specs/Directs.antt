@@ -19,7 +19,7 @@ use Rattle.cosim_inputs.specs.declared.refusals.InputsRefusal.TheVariants.{Confi
 use Rattle.cosim_inputs.specs.Fresh.{master_of, devices_of}
 use Rattle.cosim_inputs.specs.Inputs.{trouble, machine_files, names_read}
 use Rattle.cosim_inputs.specs.Judging.{judged}
-use Rattle.cosim_direct.specs.Texts.{run_lines}
+use Rattle.run_texts.specs.Texts.{run_lines}
 
 -- the direct machine of the master and the devices at reset, with what the files hold
 abbrev pub machine_of : Store → Settings → Direct AnyMaster AnyDevice

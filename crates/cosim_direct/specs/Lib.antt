@@ -1,4 +1,2 @@
 pub mod Directs
-pub mod Endings
 pub mod Steps
-pub mod Texts

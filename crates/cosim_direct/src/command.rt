@@ -81,7 +81,7 @@ pub fn direct<F: Files, K: Sink>(
     ensures performs { Performs (DirectComes (F.told files.old) name.now) (seen F.count F.told files.old files.new)
         (seen K.count K.told out.old out.new) (F.sound files.old × K.sound out.old) (K.room out.old) result }
     // It asks for the configuration and then for the files that this names, each once, up to the first that something stands against.
-    ensures asks { AsksFor (direct_names name.now) [] (asking F.told F.asked files.old files.new) result }
+    ensures asks { AsksFor (direct_names name.now) (λ m. []) (asking F.told F.asked files.old files.new) result }
 {
     let finished = finish(alloc, name, files)?;
     put_finished(finished, out)?;

@@ -6,20 +6,18 @@ ghost use Rattle.cos_parts.specs.AnyDevices as any_devices;
 ghost use Rattle.transcript.specs.CallLines.{HasLine};
 ghost use Rattle.transcript.specs.ClosingLines.{run_text};
 ghost use Rattle.direct_machine.specs.Outcomes.{IsFresh, IsPlan};
-ghost use Rattle.cosim_direct.specs.Texts.{uarts_from, run_lines};
-ghost use Rattle.cosim_direct.specs.Endings.{IsEnding};
+ghost use Rattle.run_texts.specs.Texts.{run_lines, uarts_from};
+ghost use Rattle.run_texts.specs.Endings.{IsEnding};
 
-use cos_api::{Calls, Master};
-use cos_base::{NoMemory, Numbers, Octets};
-use cos_config::{PortConfig, PortKind};
+use cos_api::Calls;
+use cos_base::{NoMemory, Octets};
+use cos_config::PortConfig;
 use cos_parts::{AnyDevice, AnyMaster};
 use cosim_model::Plan;
 use direct_machine::outcome::Direct;
+use run_texts::{ending_of, make_piece, uarts_of};
 use std::alloc::Global;
-use transcript::{Ending, outs_of};
-
-/// What a piece of the text has at most, in bytes.
-const PIECE: usize = 512;
+use transcript::Ending;
 
 /// A run that is over: its calls, how it ended, and room for the pieces of its text.
 #[derive(Drop)]
@@ -29,40 +27,23 @@ pub struct Finished {
     pub piece: Octets,
 }
 
-/// The numbers of the ports that have a UART.
-fn uarts(alloc: Global, ports: &[PortConfig]) -> Result<Numbers, NoMemory>
-    requires { length ports.now ≤ 16 }
-    ensures { IfOk result (λ n. n ≡ uarts_from 0 ports.now) }
-{
-    let mut uarts = Numbers::make(alloc);
-    let mut number = 0;
-    for port in ports {
-        if port.kind == PortKind::Uart {
-            uarts.push(number)?;
-        }
-        number += 1;
-    }
-    Ok(uarts)
-}
-
-/// How a run ended, and what its UARTs sent.
-fn ending_of(
+/// How a run ended, and what the UARTs of these ports sent.
+fn ending_of_ports(
     alloc: Global,
     ports: &[PortConfig],
     direct: &Direct<AnyMaster, AnyDevice>,
 ) -> Result<Ending, NoMemory>
     requires { length ports.now ≤ 16 }
-    ensures { IfOk result (IsEnding direct.now.calls.calls direct.now.master direct.now.ticks ports.now) }
+    ensures { IfOk result (IsEnding direct.now.calls.calls direct.now.master direct.now.ticks (uarts_from 0 ports.now)) }
 {
-    let uarts = uarts(alloc, ports)?;
-    let outs = outs_of(alloc, &direct.calls, uarts.as_slice())?;
-    Ok(Ending {
-        stop: direct.master.stopped(),
-        ticks: direct.ticks,
-        closing: direct.master.closing(),
-        ram: direct.master.ram().digest(),
-        outs,
-    })
+    let uarts = uarts_of(alloc, ports)?;
+    ending_of(
+        alloc,
+        uarts.as_slice(),
+        &direct.master,
+        &direct.calls,
+        direct.ticks,
+    )
 }
 
 /// A run that is over, with room for the pieces of its text.
@@ -72,9 +53,8 @@ fn with_room(alloc: Global, calls: Calls, end: Ending) -> Result<Finished, NoMem
     ensures empty { IfOk result (λ f. f.piece.bytes ≡ []) }
     ensures room { IfOk result (λ f. 512 ≤ f.piece.spare) }
 {
-    let mut piece = Octets::make(alloc);
-    match piece.reserve(PIECE) {
-        Ok(()) => Ok(Finished { calls, end, piece }),
+    match make_piece(alloc) {
+        Ok(piece) => Ok(Finished { calls, end, piece }),
         Err(NoMemory) => Err(NoMemory),
     }
 }
@@ -97,7 +77,7 @@ pub fn run(
     ensures room { IfOk result (λ f. 512 ≤ f.piece.spare) }
 {
     let direct = direct_machine::direct(alloc, master, devices, plan)?;
-    match ending_of(alloc, ports, &direct) {
+    match ending_of_ports(alloc, ports, &direct) {
         Ok(end) => with_room(alloc, direct.calls, end),
         Err(NoMemory) => Err(NoMemory),
     }

@@ -27,7 +27,7 @@ pub fn pack<F: Files, K: Sink>(
     ensures performs { Performs (OfFile name.now Packed (F.told files.old)) (seen F.count F.told files.old files.new)
         (seen K.count K.told out.old out.new) (F.sound files.old × K.sound out.old) (K.room out.old) result }
     // It asks for its file, once.
-    ensures asks { AsksFor (λ m. name.now ∷ []) [] (asking F.told F.asked files.old files.new) result }
+    ensures asks { AsksFor (λ m. name.now ∷ []) (λ m. []) (asking F.told F.asked files.old files.new) result }
 {
     let text = read_file(files, name)?;
     let mut bytes = Octets::make(alloc);

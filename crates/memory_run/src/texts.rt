@@ -1,18 +1,16 @@
 // The text of a run that is over.
-ghost use Rattle.std.specs.Prelude.{◌≡◌, All, length, true};
+ghost use Rattle.std.specs.Prelude.{◌≡◌, ◌≤◌, All, length, true};
 ghost use Rattle.transcript.specs.CallLines.{HasLine, IsShort};
 
 use crate::stopped::Stopped;
-use cos_api::{Call, Master, Want};
-use cos_base::{NoMemory, Numbers, Octets, Sink};
-use cos_config::{PortConfig, PortKind};
+use cos_api::{Call, Want};
+use cos_base::Sink;
+use cos_config::PortConfig;
 use cos_parts::AnyMaster;
 use machine_turns::MachineEnd;
+use run_texts::{ending_of, make_piece, uarts_of};
 use std::alloc::Global;
-use transcript::{Ending, outs_of, put_lines};
-
-/// What a piece of the text has at most, in bytes.
-const PIECE: usize = 512;
+use transcript::put_lines;
 
 /// The most bytes that a line shows of a want, or of its reply.
 const SHOWN: u8 = 64;
@@ -50,47 +48,24 @@ fn have_lines(calls: &[Call]) -> bool
     true
 }
 
-/// The numbers of the ports that have a UART.
-fn uarts_of(alloc: Global, ports: &[PortConfig]) -> Result<Numbers, NoMemory> {
-    let mut uarts = Numbers::make(alloc);
-    let mut number = 0u32;
-    for port in ports {
-        if port.kind == PortKind::Uart {
-            uarts.push(number)?;
-        }
-        number = number.saturating_add(1);
-    }
-    Ok(uarts)
-}
-
-/// How the run of a machine's end came out.
-fn ending_of(
-    alloc: Global,
-    ports: &[PortConfig],
-    end: &MachineEnd<AnyMaster>,
-) -> Result<Ending, NoMemory> {
-    let uarts = uarts_of(alloc, ports)?;
-    let outs = outs_of(alloc, end.calls(), uarts.as_slice())?;
-    let master = end.master();
-    Ok(Ending {
-        stop: master.stopped(),
-        ticks: end.ticks(),
-        closing: master.closing(),
-        ram: master.ram().digest(),
-        outs,
-    })
-}
-
 /// Prints a line for each call of a machine's end, and the closing lines.
 pub fn put_run<K: Sink>(
     alloc: Global,
     ports: &[PortConfig],
     end: &MachineEnd<AnyMaster>,
     out: &mut K,
-) -> Result<(), Stopped> {
-    let ending = ending_of(alloc, ports, end)?;
-    let mut piece = Octets::make(alloc);
-    piece.reserve(PIECE)?;
+) -> Result<(), Stopped>
+    requires { length ports.now ≤ 16 }
+{
+    let uarts = uarts_of(alloc, ports)?;
+    let ending = ending_of(
+        alloc,
+        uarts.as_slice(),
+        end.master(),
+        end.calls(),
+        end.ticks(),
+    )?;
+    let mut piece = make_piece(alloc)?;
     if !have_lines(end.calls().as_slice()) {
         return Err(Stopped::Lines);
     }

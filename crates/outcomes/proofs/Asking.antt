@@ -97,32 +97,32 @@ pub one-up-to : (T R : Type 0) (name : List ℕ) (a : Asking) (e : FilesFailure)
 one-up-to T R name a (files.Failed n) asks = all-begin a (λ m. name ∷ []) (λ m. []) asks
 one-up-to T R name a files.NoMemory asks = none-begins a (λ m. name ∷ []) asks
 
-pub unread-asks : (T R : Type 0) (name : List ℕ) (writes : List (List ℕ)) (a : Asking) (e : FilesFailure) → AsksOne {T = T} name a (Err e) → AsksFor {R = R} (λ m. name ∷ []) writes a (Err (stop_of_files e))
-unread-asks T R name writes a (files.Failed n) asks = all-begin a (λ m. name ∷ []) (λ m. writes) asks
-unread-asks T R name writes a files.NoMemory asks = none-begins a (λ m. name ∷ writes) asks
+pub unread-asks : (T R : Type 0) (name : List ℕ) (writes : Names) (a : Asking) (e : FilesFailure) → AsksOne {T = T} name a (Err e) → AsksFor {R = R} (λ m. name ∷ []) writes a (Err (stop_of_files e))
+unread-asks T R name writes a (files.Failed n) asks = all-begin a (λ m. name ∷ []) writes asks
+unread-asks T R name writes a files.NoMemory asks = none-begins a (λ m. (name ∷ []) ++ writes m) asks
 
-pub judge-asks : {R : Type 0} (reads : Names) (writes : List (List ℕ)) (a : Asking) (fault : JudgeFault R) → AsksAll a reads → AsksFor reads writes a (Err (stop_of_judge fault))
+pub judge-asks : {R : Type 0} (reads : Names) (writes : Names) (a : Asking) (fault : JudgeFault R) → AsksAll a reads → AsksFor reads writes a (Err (stop_of_judge fault))
 judge-asks reads writes a (judge.Refused r) asks = asks
-judge-asks reads writes a judge.NoMemory asks = all-begin a reads (λ m. writes) asks
+judge-asks reads writes a judge.NoMemory asks = all-begin a reads writes asks
 
-pub print-asks : (R : Type 0) (reads : Names) (writes : List (List ℕ)) (a : Asking) (r : Result Unit OutFailure) → AsksAll a (λ m. reads m ++ writes) → AsksFor reads writes a (put_result {R = R} r)
+pub print-asks : (R : Type 0) (reads : Names) (writes : Names) (a : Asking) (r : Result Unit OutFailure) → AsksAll a (λ m. reads m ++ writes m) → AsksFor reads writes a (put_result {R = R} r)
 print-asks R reads writes a (Ok u) asks = asks
 print-asks R reads writes a (Err e) asks = asks
 
-pub inputs-ask : {R : Type 0} (reads : Names) (a : Asking) (fault : ReadFault R) → AsksUpTo reads a fault → AsksFor reads [] a (Err (stop_of_read fault))
+pub inputs-ask : {R : Type 0} (reads : Names) (a : Asking) (fault : ReadFault R) → AsksUpTo reads a fault → AsksFor reads (λ m. []) a (Err (stop_of_read fault))
 inputs-ask reads a (read.Refused r) asks = asks
 inputs-ask reads a (read.Failed n) asks = some-same a reads (λ m. reads m ++ []) (λ m. sym (append-nil (reads m))) asks
 inputs-ask reads a read.NoMemory asks = some-same a reads (λ m. reads m ++ []) (λ m. sym (append-nil (reads m))) asks
 
 -- Files were read, and a text printed of them.
-pub run-asks : (R : Type 0) (reads : Names) (a : Asking) (r : Result Unit OutFailure) → AsksAll a reads → AsksFor reads [] a (put_result {R = R} r)
-run-asks R reads a r asks = print-asks R reads [] a r (all-same a reads (λ m. reads m ++ []) (λ m. sym (append-nil (reads m))) asks)
+pub run-asks : (R : Type 0) (reads : Names) (a : Asking) (r : Result Unit OutFailure) → AsksAll a reads → AsksFor reads (λ m. []) a (put_result {R = R} r)
+run-asks R reads a r asks = print-asks R reads (λ m. []) a r (all-same a reads (λ m. reads m ++ []) (λ m. sym (append-nil (reads m))) asks)
 
 -- A file was read, and another written.
-pub write-asks : (R : Type 0) (name target : List ℕ) (a b : Asking) → Joined a b → AsksAll a (λ m. name ∷ []) → AsksOne {T = Unit} target b (Ok tt) → AsksFor {R = R} (λ m. name ∷ []) (target ∷ []) (both_asked a b) (Ok tt)
+pub write-asks : (R : Type 0) (name target : List ℕ) (a b : Asking) → Joined a b → AsksAll a (λ m. name ∷ []) → AsksOne {T = Unit} target b (Ok tt) → AsksFor {R = R} (λ m. name ∷ []) (λ m. target ∷ []) (both_asked a b) (Ok tt)
 write-asks R name target a b joined first then = all-both a b (λ m. name ∷ []) (λ m. target ∷ []) joined first then
 
-pub unwritten-asks : (R : Type 0) (name target : List ℕ) (a b : Asking) (e : FilesFailure) → Joined a b → AsksAll a (λ m. name ∷ []) → AsksOne {T = Unit} target b (Err e) → AsksFor {R = R} (λ m. name ∷ []) (target ∷ []) (both_asked a b) (Err (stop_of_files e))
+pub unwritten-asks : (R : Type 0) (name target : List ℕ) (a b : Asking) (e : FilesFailure) → Joined a b → AsksAll a (λ m. name ∷ []) → AsksOne {T = Unit} target b (Err e) → AsksFor {R = R} (λ m. name ∷ []) (λ m. target ∷ []) (both_asked a b) (Err (stop_of_files e))
 unwritten-asks R name target a b (files.Failed n) joined first then =
     some-both a b (λ m. name ∷ []) (λ m. target ∷ []) joined first (all-begin b (λ m. target ∷ []) (λ m. []) then)
 unwritten-asks R name target a b files.NoMemory joined first then =

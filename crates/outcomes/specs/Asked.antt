@@ -59,14 +59,15 @@ abbrev pub AsksEach : {T R : Type 0} → Names → Asking → Result T (ReadFaul
 AsksEach reads a (Ok x) = AsksAll a reads
 AsksEach reads a (Err e) = AsksUpTo reads a e
 
--- A command asked for the names that it reads, and then for those that it writes: for all of them where its work is
--- done or printing stopped, for those that it reads where it is refused, and for a beginning where it stopped earlier.
-abbrev pub AsksFor : {R : Type 0} → Names → List (List ℕ) → Asking → Result Unit (Stop R) → Type 0
-AsksFor reads writes a (Ok u) = AsksAll a (λ m. reads m ++ writes)
+-- A command asked for the names that it reads, and then for those that it writes, which may hang on what is read: for
+-- all of them where its work is done or printing stopped, for those that it reads where it is refused, and for a
+-- beginning where it stopped earlier.
+abbrev pub AsksFor : {R : Type 0} → Names → Names → Asking → Result Unit (Stop R) → Type 0
+AsksFor reads writes a (Ok u) = AsksAll a (λ m. reads m ++ writes m)
 AsksFor reads writes a (Err (Refused r)) = AsksAll a reads
-AsksFor reads writes a (Err (Outside object.Files n)) = AsksSome a (λ m. reads m ++ writes)
-AsksFor reads writes a (Err (Outside object.Out n)) = AsksAll a (λ m. reads m ++ writes)
+AsksFor reads writes a (Err (Outside object.Files n)) = AsksSome a (λ m. reads m ++ writes m)
+AsksFor reads writes a (Err (Outside object.Out n)) = AsksAll a (λ m. reads m ++ writes m)
 AsksFor reads writes a (Err (Outside object.Net n)) = ⊥
 AsksFor reads writes a (Err (Outside (object.Link port) n)) = ⊥
 AsksFor reads writes a (Err (Outside object.Spawner n)) = ⊥
-AsksFor reads writes a (Err NoMemory) = AsksSome a (λ m. reads m ++ writes)
+AsksFor reads writes a (Err NoMemory) = AsksSome a (λ m. reads m ++ writes m)

@@ -51,12 +51,12 @@ returns-clause-performs g c = λ out room same.
 pub returns-in_err-text-clause-asks : goal.returns-in_err-text-clause-asks
 returns-in_err-text-clause-asks g c =
     let p = err_from_is_err_and c.from_residual.result c.from_residual.ensures.1 in
-    rw (p.1, p.2) (unread-asks Held _ c.args.file.now (c.args.target.now ∷ []) _ c.in_err-text.field-0.0 c.in_err-text.ensures.asks)
+    rw (p.1, p.2) (unread-asks Held _ c.args.file.now (λ m. c.args.target.now ∷ []) _ c.in_err-text.field-0.0 c.in_err-text.ensures.asks)
 
 pub returns-in_err-image-clause-asks : goal.returns-in_err-image-clause-asks
 returns-in_err-image-clause-asks g c =
     let p = err_from_is_err_and c.from_residual-in_err-image.result c.from_residual-in_err-image.ensures.1 in
-    rw (p.1, p.2) (judge-asks (λ m. c.args.file.now ∷ []) (c.args.target.now ∷ []) _ c.in_err-image.field-0.0 c.in_ok-text.ensures.asks)
+    rw (p.1, p.2) (judge-asks (λ m. c.args.file.now ∷ []) (λ m. c.args.target.now ∷ []) _ c.in_err-image.field-0.0 c.in_ok-text.ensures.asks)
 
 pub returns-in_err-write_file-clause-asks : goal.returns-in_err-write_file-clause-asks
 returns-in_err-write_file-clause-asks g c =

@@ -64,7 +64,7 @@ returns-clause-performs g c =
 pub returns-in_err-image-clause-asks : goal.returns-in_err-image-clause-asks
 returns-in_err-image-clause-asks g c =
     let p = err_from_is_err_and c.from_residual.result c.from_residual.ensures.1 in
-    rw (p.1, p.2) (unread-asks Held _ c.args.file.now [] _ c.in_err-image.field-0.0 c.in_err-image.ensures.asks)
+    rw (p.1, p.2) (unread-asks Held _ c.args.file.now (λ m. []) _ c.in_err-image.field-0.0 c.in_err-image.ensures.asks)
 
 pub returns-in_err-text-clause-asks : goal.returns-in_err-text-clause-asks
 returns-in_err-text-clause-asks g c =

@@ -4,9 +4,10 @@ use Rattle.cos_parts.specs.AnyMasters as any_masters
 use Rattle.cos_parts.specs.AnyDevices as any_devices
 use Rattle.transcript.specs.CallLines.{HasLine}
 use Rattle.transcript.specs.ClosingLines.{run_text}
-use Rattle.cosim_direct.specs.Texts.{run_lines}
-use Rattle.cosim_direct.proofs.Listed.{direct-listed}
-use Rattle.cosim_direct.proofs.Printing.{run-printed, finished-of}
+use Rattle.run_texts.specs.Texts.{run_lines}
+use Rattle.run_texts.proofs.Listed.{direct-listed}
+use Rattle.run_texts.proofs.Printing.{run-printed}
+use Rattle.cosim_direct.proofs.RunParts.{finished-of}
 use Rattle.cosim_direct.proofs.finished.run.Goals as goal
 
 pub returns-in-Ok-clause-text : goal.returns-in-Ok-clause-text

@@ -39,12 +39,12 @@ returns-clause-performs g c =
 pub returns-in_err-text-clause-asks : goal.returns-in_err-text-clause-asks
 returns-in_err-text-clause-asks g c =
     let p = err_from_is_err_and c.from_residual.result c.from_residual.ensures.1 in
-    rw (p.1, p.2) (unread-asks Held _ c.args.name.now [] _ c.in_err-text.field-0.0 c.in_err-text.ensures.asks)
+    rw (p.1, p.2) (unread-asks Held _ c.args.name.now (λ m. []) _ c.in_err-text.field-0.0 c.in_err-text.ensures.asks)
 
 pub returns-in_err-pack_text-clause-asks : goal.returns-in_err-pack_text-clause-asks
 returns-in_err-pack_text-clause-asks g c =
     let p = err_from_is_err_and c.from_residual-in_err-pack_text.result c.from_residual-in_err-pack_text.ensures.1 in
-    rw (p.1, p.2) (judge-asks (λ m. c.args.name.now ∷ []) [] _ c.in_err-pack_text.field-0.0 c.in_ok-text.ensures.asks)
+    rw (p.1, p.2) (judge-asks (λ m. c.args.name.now ∷ []) (λ m. []) _ c.in_err-pack_text.field-0.0 c.in_ok-text.ensures.asks)
 
 pub returns-in_err-put_text-clause-asks : goal.returns-in_err-put_text-clause-asks
 returns-in_err-put_text-clause-asks g c =

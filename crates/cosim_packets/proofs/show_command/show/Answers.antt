@@ -42,7 +42,7 @@ returns-in-Err-Refused-clause-performs g c =
 pub returns-in_err-bytes-clause-asks : goal.returns-in_err-bytes-clause-asks
 returns-in_err-bytes-clause-asks g c =
     let p = err_from_is_err_and c.from_residual.result c.from_residual.ensures.1 in
-    rw (p.1, p.2) (unread-asks Held _ c.args.name.now [] _ c.in_err-bytes.field-0.0 c.in_err-bytes.ensures.asks)
+    rw (p.1, p.2) (unread-asks Held _ c.args.name.now (λ m. []) _ c.in_err-bytes.field-0.0 c.in_err-bytes.ensures.asks)
 
 pub returns-in_err-put_text-in-Ok-clause-asks : goal.returns-in_err-put_text-in-Ok-clause-asks
 returns-in_err-put_text-in-Ok-clause-asks g c =

@@ -31,10 +31,13 @@ uarts_from port (p ∷ ps) = uart_as p.kind port (uarts_from (port + 1) ps)
 abbrev pub sent_line : List Call → ℕ → List ℕ
 sent_line calls port = uart_line port (sent_by calls port)
 
--- The lines of the calls; how it ended, the master at its end, and what the UARTs sent.
-abbrev pub run_lines : Direct AnyMaster AnyDevice → List PortConfig → List ℕ
-run_lines r ports =
-    flat_map call_text r.calls
-    ++ (stop_line (any_stopped r.master) r.tick ++ hart_lines (any_closing r.master).hart
+-- How it ended, the master at its end, and what these ports' UARTs sent.
+abbrev pub end_lines : Direct AnyMaster AnyDevice → List ℕ → List ℕ
+end_lines r uarts =
+    stop_line (any_stopped r.master) r.tick ++ hart_lines (any_closing r.master).hart
     ++ state_lines (any_closing r.master).lines (sha256 (any_ram r.master))
-    ++ flat_map (sent_line r.calls) (uarts_from 0 ports))
+    ++ flat_map (sent_line r.calls) uarts
+
+-- The lines of the calls, and of the end.
+abbrev pub run_lines : Direct AnyMaster AnyDevice → List PortConfig → List ℕ
+run_lines r ports = flat_map call_text r.calls ++ end_lines r (uarts_from 0 ports)
