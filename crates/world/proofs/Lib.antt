@@ -4,3 +4,4 @@ mod Backing
 mod Turning
 mod Rooming
 mod Making
+mod Reaching

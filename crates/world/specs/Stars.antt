@@ -57,12 +57,9 @@ module _ {M S : Type 0} (k : MasterModel M) (d : DeviceModel S) where
   abbrev pub star : Star (Hub M) (Leaf S)
   star = star_of (ends k d packet_codec)
 
-  -- No turn that can be taken meets a fault, and one of the machine end sends at most 4,176 bytes.
+  -- No turn that can be taken meets a fault.
   pub record IsSound (w : Ends M S) : Type 0 where
     pub hub : (r : Hub M × Option (ℕ × List ℕ)) → star.hub_turn w.hub (hub_received w) ≡ Some r → r.0.core.fault ≡ None
-    pub few :
-        (h : Hub M) (p : ℕ) (bytes : List ℕ) → star.hub_turn w.hub (hub_received w) ≡ Some (h, Some (p, bytes))
-        → length bytes ≤ 4176
     pub leaf :
         (p : ℕ) (r : Leaf S × List ℕ) → leaf_turn_of star (slice_get w.leaves p) (leaf_received w p) ≡ Some r
         → r.0.core.fault ≡ None
