@@ -5,3 +5,5 @@ mod Turning
 mod Rooming
 mod Making
 mod Reaching
+mod Taking
+mod Finishing

@@ -44,7 +44,7 @@ set-there [] p x y at = absurd (none-some x at)
 set-there (a ∷ xs) zero x y at = refl
 set-there (a ∷ xs) (suc p) x y at = set-there xs p x y at
 
-steps-append : {M S : Type 0} (k : MasterModel M) (d : DeviceModel S) (w : Ends M S) (xs ys : List StarStep)
+pub steps-append : {M S : Type 0} (k : MasterModel M) (d : DeviceModel S) (w : Ends M S) (xs ys : List StarStep)
     → star_effective_steps (star k d) w (xs ++ ys)
     ≡ star_effective_steps (star k d) w xs + star_effective_steps (star k d) (star_all (star k d) w xs) ys
 steps-append k d w [] ys = omega arith
@@ -67,6 +67,14 @@ module _ {M S : Type 0} (k : MasterModel M) (d : DeviceModel S) where
 
   pub links-long : (s : Start M S) (steps : List StarStep) → length (after_steps k d s steps).links ≡ length s.ports
   links-long s steps = (all_kept (star k d) (begun k d s) steps).0 ∙ length-replicate _ _ ∙ starts-long s
+
+  -- Leaves and links are as many as the ports.
+  pub ports-there : (w : WorldValue M S) → IsReached k d w
+      → (length w.now.leaves ≡ length w.start.ports) × (length w.now.links ≡ length w.start.ports)
+  ports-there w is = (
+    ap (λ (v : Ends M S). length v.leaves) is.now ∙ leaves-long w.start is.steps,
+    ap (λ (v : Ends M S). length v.links) is.now ∙ links-long w.start is.steps,
+  )
 
   -- One step more.
   one-more : (s : Start M S) (steps : List StarStep) (step : StarStep)
@@ -105,7 +113,7 @@ module _ {M S : Type 0} (k : MasterModel M) (d : DeviceModel S) where
       step moved was (record { now = is.new_is; moved_is = is.moved_is; effective = counts; start = refl })
 
   module _ (device_laws : IsDevice d) (master_laws : IsMaster k) where
-    theorem : (s : Start M S) → Fit k d s.plan s.master s.ports
+    pub theorem : (s : Start M S) → Fit k d s.plan s.master s.ports
         → all.IsEverySchedule k d packet_codec s.plan s.master s.ports
     theorem s fit = every_schedule k d packet_codec s.plan device_laws master_laws codec-laws s.master s.ports fit
 

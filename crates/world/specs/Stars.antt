@@ -13,6 +13,8 @@ use Rattle.rp_packet.specs.declared.fault.Cause.{Cause}
 use Rattle.rp_packet.specs.Streams.{packet_codec}
 use Rattle.device_turns.specs.Ends.{End as DeviceTurns, core_of as device_core}
 use Rattle.machine_turns.specs.Ends.{End, Received, core_of}
+use Rattle.cos_schedules.specs.declared.step.Way.{Way}
+use Rattle.cos_schedules.specs.declared.step.Way.TheVariants.{Out, Back}
 use Rattle.world.specs.Seats.{SeatValue, leaf_of}
 
 abbrev pub Hub : Type 0 → Type 0
@@ -99,6 +101,11 @@ is_move (turn.Served p) = true
 is_move turn.Marked = true
 is_move (turn.NotYet p) = false
 is_move turn.Done = false
+
+-- what was sent on a link that way
+abbrev pub sent_on : Way → Link → List ℕ
+sent_on Out k = k.out
+sent_on Back k = k.back
 
 -- Each of the first n has room for what a turn sends.
 abbrev pub HaveRoom : {S : Type 0} → ℕ → List (SeatValue S) → Type 0

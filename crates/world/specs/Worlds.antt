@@ -1,6 +1,7 @@
 -- A world: where its ends are, what they began with, and what its calls promise. `every_schedule` is the theorem behind.
 use Rattle.std.specs.Prelude.{◌≡◌, ℕ, ◌+◌, ◌≤◌, ◌⊎◌, Bool, true, if◌then◌else◌, List, [], ◌∷◌, ◌++◌, length, map}
-use Rattle.std.specs.Prelude.{Option, Some, None, slice_get}
+use Rattle.std.specs.Prelude.{Option, Some, None, OnOk, Result, slice_get}
+use Rattle.cos_base.specs.declared.no_memory.NoMemory.{NoMemory}
 use Rattle.process_network.specs.Network.{IsPrefix}
 use Rattle.process_network.specs.PacketStar.{HubEnd, LeafEnd, star_of}
 use Rattle.process_network.specs.Star.{StarStep, hub_received, link, star_after, star_all, star_effective}
@@ -14,6 +15,10 @@ use Rattle.every_schedule.specs.Schedules as all
 use Rattle.rp_framing.specs.Framing.{counted}
 use Rattle.rp_packet.specs.declared.fault.Cause.{Cause}
 use Rattle.rp_packet.specs.Streams.{packet_codec}
+use Rattle.cos_schedules.specs.declared.schedule.Schedule.{Schedule}
+use Rattle.cos_schedules.specs.declared.step.Step.{Step}
+use Rattle.cos_schedules.specs.Beginnings.{BeginsWith}
+use Rattle.cos_schedules.specs.Stars.{star_step}
 use Rattle.device_turns.specs.Ends.{End as DeviceTurns, fresh as fresh_end}
 use Rattle.world.specs.Stars.{Ends, Hub, Leaf, star}
 
@@ -102,3 +107,23 @@ module _ {M S : Type 0} (k : MasterModel M) (d : DeviceModel S) where
         ⊎ ((s : StarStep) × (star_effective (star k d) w.now s ≡ true))
     pub room : HasRoom w
     pub few : w.effective ≤ all.most_steps k d packet_codec w.start.plan w.start.master w.start.ports
+
+  -- These steps led from one world to another, and the machine end was not done before any of them.
+  pub record HasTaken (old new : WorldValue M S) (steps : List Step) : Type 0 where
+    pub now : new.now ≡ star_all (star k d) old.now (map star_step steps)
+    pub effective :
+        new.effective ≡ counted (old.effective + star_effective_steps (star k d) old.now (map star_step steps))
+    pub start : new.start ≡ old.start
+    pub unfinished : (front : List Step) (step : Step) (back : List Step) → steps ≡ front ++ step ∷ back
+        → (star_all (star k d) old.now (map star_step front)).hub.core.phase ≡ Done → ⊥
+
+  -- Steps that a schedule begins with were taken so.
+  abbrev pub IsRun : Schedule → WorldValue M S → WorldValue M S → Type 0
+  IsRun schedule old new =
+      (steps : List Step) × BeginsWith schedule (length old.start.ports) steps × HasTaken old new steps
+
+  -- A beginning of a list was taken so: all of it, or up to where the machine end is done, or memory ran out.
+  abbrev pub TakesOf : List Step → WorldValue M S → WorldValue M S → Result Unit NoMemory → Type 0
+  TakesOf list old new result =
+      (steps : List Step) × (rest : List Step) × (list ≡ steps ++ rest) × HasTaken old new steps
+      × OnOk result ((rest ≡ []) ⊎ (new.now.hub.core.phase ≡ Done))

@@ -1,11 +1,11 @@
 // A world of ends, which knows what it began with.
-ghost use Rattle.std.specs.Prelude.{◌≡◌, ◌↔◌, ◌<◌, All, IfOk, OnErr, Some, length, map, slice_get, true};
+ghost use Rattle.std.specs.Prelude.{◌≡◌, ◌↔◌, ◌<◌, All, IfOk, OnErr, OnOk, Some, length, map, slice_get, true};
 ghost use Rattle.world.specs.Worlds.{IsStart, side_of};
 
 use crate::ends::Ends;
 use cos_api::{Device, Master};
 use cos_base::NoMemory;
-use cos_schedules::Step;
+use cos_schedules::{Rounds, Schedule, Step, Way};
 use cosim_model::Plan;
 use device_turns::DeviceEnd;
 use machine_turns::MachineEnd;
@@ -55,8 +55,11 @@ impl<M: Master, D: Device> World<M, D> {
     ghost use Rattle.ends_model.specs.World.{Fit};
     ghost use Rattle.ends_model.specs.declared.ends.Phase.TheVariants as Phase;
     ghost use Rattle.cos_schedules.specs.Stars.{star_step};
-    ghost use Rattle.world.specs.Stars.{hub_of};
-    ghost use Rattle.world.specs.Worlds.{IsOnItsWay, IsOver, IsReached, IsStepped, fresh_world};
+    ghost use Rattle.cos_schedules.specs.declared.schedule.Schedule.TheVariants.{Number};
+    ghost use Rattle.process_network.specs.Star.{link};
+    ghost use Rattle.world.specs.Seats.{leaf_of};
+    ghost use Rattle.world.specs.Stars.{hub_of, sent_on};
+    ghost use Rattle.world.specs.Worlds.{IsOnItsWay, IsOver, IsReached, IsRun, IsStepped, TakesOf, fresh_world};
 
     /// A world in which no step was taken.
     ///
@@ -106,6 +109,80 @@ impl<M: Master, D: Device> World<M, D> {
             self.effective = self.effective.saturating_add(1);
         }
         Ok(moved)
+    }
+
+    /// Takes the steps of a schedule, up to the first at which the machine end is done. After `NoMemory` it stands after a beginning of
+    /// them.
+    pub fn run(&mut self, schedule: &Schedule) -> Result<(), NoMemory>
+        ensures runs { IsRun M.model D.model schedule.now self.old self.new }
+        ensures done { OnOk result (self.new.now.hub.core.phase ≡ Phase.Done) }
+        ensures over { OnOk result (IsOver M.model D.model self.new) }
+    {
+        match schedule {
+            Schedule::Number { number } => self.run_rounds(*number),
+            Schedule::Listed { steps } => match self.run_list(steps.as_slice()) {
+                Ok(()) => self.run_rounds(0),
+                Err(NoMemory) => Err(NoMemory),
+            },
+        }
+    }
+
+    /// Takes the steps of a list, up to the first at which the machine end is done.
+    fn run_list(&mut self, steps: &[Step]) -> Result<(), NoMemory>
+        ensures { TakesOf M.model D.model steps.now self.old self.new result }
+    {
+        self.is_on_its_way();
+        let mut at = 0;
+        'steps: while at < steps.len() && !self.is_finished() {
+            let step = steps[at];
+            match self.step(step) {
+                Ok(_) => at += 1,
+                Err(NoMemory) => return Err(NoMemory),
+            }
+        }
+        Ok(())
+    }
+
+    /// Takes the steps of the rounds of a number, until the machine end is done.
+    fn run_rounds(&mut self, number: u32) -> Result<(), NoMemory>
+        ensures runs { IsRun M.model D.model (Number number) self.old self.new }
+        ensures done { OnOk result (self.new.now.hub.core.phase ≡ Phase.Done) }
+        ensures over { OnOk result (IsOver M.model D.model self.new) }
+    {
+        self.is_on_its_way();
+        let mut rounds = Rounds::make(number, self.ports());
+        'steps: while !self.is_finished() {
+            self.is_on_its_way();
+            let step = rounds.next();
+            match self.step(step) {
+                Ok(_) => {}
+                Err(NoMemory) => return Err(NoMemory),
+            }
+        }
+        Ok(())
+    }
+
+    /// The number of ports.
+    pub fn ports(&self) -> u32
+        ensures { result ≡ length self.now.start.ports }
+    {
+        self.ends.ports() as u32
+    }
+
+    /// The device end of a port.
+    pub fn device(&self, port: u32) -> &DeviceEnd<D>
+        requires { port < length self.now.start.ports }
+        ensures { slice_get self.now.now.leaves port ≡ Some (leaf_of result.now) }
+    {
+        self.ends.device(port)
+    }
+
+    /// The bytes that were sent on a port.
+    pub fn sent(&self, port: u32, way: Way) -> &[u8]
+        requires { port < length self.now.start.ports }
+        ensures { result.now ≡ sent_on way (link self.now.now port) }
+    {
+        self.ends.sent(port, way)
     }
 
     /// What holds at any time, whatever steps were taken: `reached`, that some steps led from the start to where it is; and `way`, that
