@@ -290,8 +290,7 @@ course-keeps c new step n gives long short = by c.left refl
     by [] none =
         let at = ap (begun_at c) none in
         let size : length (begun c).left ≡ base_length c.ports =
-        ap (λ (x : Course). length x.left) at ∙ length-round c.number c.ports c.x in
-        (
+        ap (λ (x : Course). length x.left) at ∙ length-round c.number c.ports c.x in (
           ports-are ∙ ap (λ (x : Course). x.ports) at ∙ long,
           let all : suc (length new.left) ≡ base_length n = left-are ∙ size ∙ ap base_length long in omega (arith, all),
         )

@@ -1,4 +1,5 @@
 use Rattle.std.proofs.Common.{◌≡◌, ◌⊎◌, inl, inr, ℕ, ◌+◌, ◌<◌, ◌≤◌, true, false, List, [], ◌∷◌, ◌++◌, length, take, drop, get_or, refl, sym, ap, ◌∙◌, subst, arith}
+use Rattle.std.proofs.lemmas.Grind.{take_at_read}
 use Rattle.std.proofs.lemmas.List.{take-append-drop}
 use Rattle.world.specs.Worlds.{HasTaken}
 use Rattle.world.proofs.Taking.{take-both, take-none, take-one}
@@ -14,9 +15,11 @@ steps-preserved g c =
     let d = g.D.Device.model in
     let one = take-one k d c.steps.self c.step.new.self _ c.in-Ok.field-0
     (λ done. let is = c.is_finished.ensures.is.1 done in cc (is, c.if-not-is_finished.true)) c.in-Ok.ensures.ok in
-    (
-      ?,
-      ?,
+    let within = c.steps-test.true in
+    let next = (take_at_read c.args.steps.now c.steps.at _ (omega (arith, within))).1 in (
+      omega (arith, within),
+      subst (λ l. HasTaken k d c.args.self.now c.step.new.self l) (sym next)
+          (take-both k d c.args.self.now c.steps.self c.step.new.self (take c.steps.at c.args.steps.now) _ c.steps.invariant.1 one),
     )
 
 pub returns-in-Err : goal.returns-in-Err
@@ -35,5 +38,5 @@ returns-else-not-is_finished g c = (
   drop c.steps.at c.args.steps.now,
   sym (take-append-drop c.steps.at c.args.steps.now),
   c.steps.invariant.1,
-  inr ?,
+  inr (c.if-not-is_finished.ensures.is.0 refl),
 )
