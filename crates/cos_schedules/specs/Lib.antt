@@ -3,3 +3,4 @@ pub mod Schedules
 pub mod Courses
 pub mod Held
 pub mod Stars
+pub mod Beginnings

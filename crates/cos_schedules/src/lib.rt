@@ -7,6 +7,7 @@ mod fault;
 mod laws;
 mod line;
 mod rounds;
+mod schedule;
 mod step;
 mod steps;
 
@@ -14,6 +15,7 @@ pub use draws::Draws;
 pub use fault::StepsFault;
 pub use laws::{gives_its_rounds, rounds_are_whole};
 pub use rounds::Rounds;
+pub use schedule::Schedule;
 pub use step::{Step, Way};
 pub use steps::{Steps, read_steps};
 

@@ -5,6 +5,7 @@ mod Frames
 mod Greeting
 mod Syncing
 mod Working
+mod Few
 mod Fresh
 mod Gathering
 mod Hearing

@@ -1,5 +1,5 @@
 // A machine end without received bytes.
-ghost use Rattle.std.specs.Prelude.{◌≡◌, ◌↔◌, ◌<◌, ◌≤◌, true, false, Some, None, IfOk, OnOk, OnErr};
+ghost use Rattle.std.specs.Prelude.{◌≡◌, ◌↔◌, ◌+◌, ◌<◌, ◌≤◌, true, false, Some, None, IfOk, OnOk, OnErr};
 
 use crate::answers::heard_answer;
 use crate::boundaries::{ends_sync, first_phase, is_due, is_over, phase_after};
@@ -180,6 +180,7 @@ impl<M: Master> MachineCore<M> {
         requires room { 4176 ≤ out.old.spare }
         ensures acts { Acts M.model self.old self.new out.old.bytes out.new.bytes result }
         ensures clear { self.new.end.fault ≡ None }
+        ensures few { length out.new.bytes ≤ length out.old.bytes + 4176 }
     {
         match self.phase {
             Phase::Greet { port } => self.greet(port, out),
@@ -324,7 +325,8 @@ impl<M: Master> MachineCore<M> {
         requires phase { self.old.end.phase ≡ Phase.Gather }
         requires calls { 1 ≤ self.old.room }
         requires room { 4176 ≤ out.old.spare }
-        ensures { ActsBy (gathers M.model self.old.end (first_true (map is_unknown self.old.end.ports))) self.old self.new out.old.bytes out.new.bytes result }
+        ensures few { length out.new.bytes ≤ length out.old.bytes + 4176 }
+        ensures acts { ActsBy (gathers M.model self.old.end (first_true (map is_unknown self.old.end.ports))) self.old self.new out.old.bytes out.new.bytes result }
     {
         if let Some(port) = first_unknown(self.ports.as_slice()) {
             return Ok(Turn::NotYet { port: port as u32 });
@@ -341,7 +343,8 @@ impl<M: Master> MachineCore<M> {
         requires held { (q : PortEnd) × (slice_get self.old.end.ports port ≡ Some q) × (is_some q.held ≡ true) }
         requires calls { 1 ≤ self.old.room }
         requires room { 4176 ≤ out.old.spare }
-        ensures { ActsBy (at_port (slice_get self.old.end.ports port) (λ q. serves_held M.model self.old.end port q q.held)) self.old self.new out.old.bytes out.new.bytes result }
+        ensures few { length out.new.bytes ≤ length out.old.bytes + 4176 }
+        ensures acts { ActsBy (at_port (slice_get self.old.end.ports port) (λ q. serves_held M.model self.old.end port q q.held)) self.old self.new out.old.bytes out.new.bytes result }
     {
         let at = port as usize;
         let answered = self.ports[at].serve(

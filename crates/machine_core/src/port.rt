@@ -1,5 +1,5 @@
 // A port of the machine end.
-ghost use Rattle.std.specs.Prelude.{◌≡◌, ◌≤◌, ◌++◌, true, false, Some, None, IfOk, IfErr, OnOk, OnErr, is_some, nat_lt};
+ghost use Rattle.std.specs.Prelude.{◌≡◌, ◌+◌, ◌≤◌, ◌++◌, length, true, false, Some, None, IfOk, IfErr, OnOk, OnErr, is_some, nat_lt};
 ghost use Rattle.ends_model.specs.MachineTurn.{time_of as request_time};
 ghost use Rattle.rp_packet.specs.Values.{value_of};
 
@@ -188,6 +188,7 @@ impl MachinePort {
         requires room { 4176 ≤ out.old.spare }
         ensures served { IfOk result (λ a. (m : PacketValue) → self.old.held ≡ Some m → Serves M.model tick port self.old m master.old calls.old.calls out.old.bytes self.new master.new calls.new.calls out.new.bytes a) }
         ensures place { place.old.room ≤ place.new.room }
+        ensures few { length out.new.bytes ≤ length out.old.bytes + 4176 }
         ensures err { OnErr result ((self.new ≡ self.old) × (master.new ≡ master.old) × (calls.new ≡ calls.old) × (out.new.bytes ≡ out.old.bytes)) }
     {
         let answered = match &self.held {

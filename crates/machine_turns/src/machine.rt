@@ -1,5 +1,5 @@
 // A machine end with the bytes that it received.
-ghost use Rattle.std.specs.Prelude.{ℕ, List, ◌≡◌, ◌↔◌, ◌<◌, ◌≤◌, true, Some, None, Err, IfOk, OnOk, OnErr};
+ghost use Rattle.std.specs.Prelude.{ℕ, List, ◌≡◌, ◌↔◌, ◌+◌, ◌<◌, ◌≤◌, true, Some, None, Err, IfOk, OnOk, OnErr};
 
 use crate::fault::{PortFault, TurnFault, end_fault};
 use crate::framers::fresh_framers;
@@ -192,6 +192,7 @@ impl<M: Master> MachineEnd<M> {
         ensures front { self.old.kept ≡ None → IsAtFront self.old result }
         ensures runs { GoesOn M.model self.old self.new out.old.bytes out.new.bytes result }
         ensures all { SendsAll M.model result self.new }
+        ensures few { length out.new.bytes ≤ length out.old.bytes + 4176 }
     {
         if let Some(fault) = self.fault {
             return Err(TurnFault::Port(fault));
@@ -208,6 +209,7 @@ impl<M: Master> MachineEnd<M> {
         requires acts { awaited (machine_acts M.model self.old.clear) ≡ None }
         ensures turns { Turns M.model self.old self.new out.old.bytes out.new.bytes result }
         ensures front { IsAtFront self.old result }
+        ensures few { length out.new.bytes ≤ length out.old.bytes + 4176 }
     {
         match out.reserve(MOST_SENT) {
             Ok(()) => {}

@@ -4,3 +4,6 @@ mod Backing
 mod Turning
 mod Rooming
 mod Making
+mod Reaching
+mod Taking
+mod Finishing

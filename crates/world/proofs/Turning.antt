@@ -315,16 +315,6 @@ module _ {M S : Type 0} (k : MasterModel M) (d : DeviceModel S) (e : End M) (sea
       pub hub-kept : IsHub new links
       hub-kept = kept-by new after (Ok t) None took (turn_of k e) refl took.goes took.keeps
 
-      sendable-by : (p : ℕ) → (o : Option (After M)) → turn_of k e ≡ o → Goes o e new [] after
-          → answer_of k e ≡ Some (Ok (turn.Sent p)) → IsSound k d now → length after ≤ 4176
-      sendable-by p None at goes answers sound = let none = ap length goes.1 in omega (arith, none)
-      sendable-by p (Some r) at goes answers sound =
-          let s = sends-to k fresh-hub (held_at e) (core_of e) whole (machine_acts k (core_of e)) p r answers at in
-          let few = sound.few (record { core = r.0.core; taken = add taken r.0.taken }) p s.0
-          (turn-is ∙ ap (lifted taken) at ∙ ap (λ o. Some (record { core = r.0.core; taken = add taken r.0.taken }, o)) s.1) in
-          let same = ap length (goes.2 ∙ ap (λ o. sent_by o) s.1) in
-          omega (arith, few, same)
-
       moved-by : (b : Bool) → is_move t ≡ b → (o : Option (After M)) → turn_of k e ≡ o → Goes o e new [] after
           → (later : List (SeatValue S))
           → map (λ (s : SeatValue S). leaf_of s.end) later ≡ now.leaves
@@ -371,21 +361,18 @@ module _ {M S : Type 0} (k : MasterModel M) (d : DeviceModel S) (e : End M) (sea
           subst (λ (w : Ends M S). IsMoved k d w (ends_of new later) HubTurn (is_move t)) same
           (moved-by (is_move t) refl (turn_of k e) refl took.goes later leaves sent)
 
-  pub sendable : (new : End M) (after : List ℕ) (t : Turn) → IsTurn k e new [] after (Ok t) None → IsAtFront e (Ok t)
-      → (w : Ends M S) → now ≡ w → IsSound k d w → IsSendable (length seats) t after
-  sendable new after (turn.Sent p) took front w same sound =
+  pub sendable : (after : List ℕ) (t : Turn) → IsAtFront e (Ok t) → length after ≤ 4176
+      → IsSendable (length seats) t after
+  sendable after (turn.Sent p) front few =
       let size = is.size in
-      let long = length-map seats (λ (s : SeatValue S). s.link) in (
-        omega (arith, front, size, long),
-        sendable-by new after (turn.Sent p) took p (turn_of k e) refl took.goes took.answers
-            (subst (λ (w : Ends M S). IsSound k d w) (sym same) sound),
-      )
-  sendable new after turn.Unit took front w same sound = tt
-  sendable new after (turn.Took p) took front w same sound = tt
-  sendable new after (turn.Served p) took front w same sound = tt
-  sendable new after turn.Marked took front w same sound = tt
-  sendable new after (turn.NotYet p) took front w same sound = tt
-  sendable new after turn.Done took front w same sound = tt
+      let long = length-map seats (λ (s : SeatValue S). s.link) in
+      (omega (arith, front, size, long), few)
+  sendable after turn.Unit front few = tt
+  sendable after (turn.Took p) front few = tt
+  sendable after (turn.Served p) front few = tt
+  sendable after turn.Marked front few = tt
+  sendable after (turn.NotYet p) front few = tt
+  sendable after turn.Done front few = tt
 
 -- What crosses the calls round a turn: room was made before, and then the bytes are appended.
 module _ {M S : Type 0} (k : MasterModel M) (d : DeviceModel S) (e new : End M) (seats roomy later : List (SeatValue S))
@@ -401,11 +388,13 @@ module _ {M S : Type 0} (k : MasterModel M) (d : DeviceModel S) (e new : End M) 
   never-faulty f took sound = no-fault k d e seats is new after f (from-empty _ _ took) w same sound
 
   module _ (t : Turn) (took : IsTurn k e new before after (Ok t) None) where
-    pub has-room-for : (e.kept ≡ None → IsAtFront e (Ok t)) → IsSound k d w → IsSendable (length roomy) t piece
-    has-room-for front sound =
+    pub has-room-for : (e.kept ≡ None → IsAtFront e (Ok t)) → length after ≤ length before + 4176
+        → IsSendable (length roomy) t piece
+    has-room-for front few =
+        let none = ap length cleared in
         subst (λ b. IsSendable (length roomy) t b) (sym piece_is)
         (subst (λ n. IsSendable n t after) (sym long)
-        (sendable k d e seats is new after t (from-empty _ _ took) (front is.clear) w same sound))
+        (sendable k d e seats is after t (front is.clear) (omega (arith, none, few))))
       where
         long : length roomy ≡ length seats
         long =

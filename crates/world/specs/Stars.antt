@@ -13,6 +13,8 @@ use Rattle.rp_packet.specs.declared.fault.Cause.{Cause}
 use Rattle.rp_packet.specs.Streams.{packet_codec}
 use Rattle.device_turns.specs.Ends.{End as DeviceTurns, core_of as device_core}
 use Rattle.machine_turns.specs.Ends.{End, Received, core_of}
+use Rattle.cos_schedules.specs.declared.step.Way.{Way}
+use Rattle.cos_schedules.specs.declared.step.Way.TheVariants.{Out, Back}
 use Rattle.world.specs.Seats.{SeatValue, leaf_of}
 
 abbrev pub Hub : Type 0 → Type 0
@@ -57,12 +59,9 @@ module _ {M S : Type 0} (k : MasterModel M) (d : DeviceModel S) where
   abbrev pub star : Star (Hub M) (Leaf S)
   star = star_of (ends k d packet_codec)
 
-  -- No turn that can be taken meets a fault, and one of the machine end sends at most 4,176 bytes.
+  -- No turn that can be taken meets a fault.
   pub record IsSound (w : Ends M S) : Type 0 where
     pub hub : (r : Hub M × Option (ℕ × List ℕ)) → star.hub_turn w.hub (hub_received w) ≡ Some r → r.0.core.fault ≡ None
-    pub few :
-        (h : Hub M) (p : ℕ) (bytes : List ℕ) → star.hub_turn w.hub (hub_received w) ≡ Some (h, Some (p, bytes))
-        → length bytes ≤ 4176
     pub leaf :
         (p : ℕ) (r : Leaf S × List ℕ) → leaf_turn_of star (slice_get w.leaves p) (leaf_received w p) ≡ Some r
         → r.0.core.fault ≡ None
@@ -102,6 +101,11 @@ is_move (turn.Served p) = true
 is_move turn.Marked = true
 is_move (turn.NotYet p) = false
 is_move turn.Done = false
+
+-- what was sent on a link that way
+abbrev pub sent_on : Way → Link → List ℕ
+sent_on Out k = k.out
+sent_on Back k = k.back
 
 -- Each of the first n has room for what a turn sends.
 abbrev pub HaveRoom : {S : Type 0} → ℕ → List (SeatValue S) → Type 0

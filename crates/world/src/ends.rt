@@ -108,11 +108,12 @@ impl<M: Master, D: Device> Model for Ends<M, D> {
 }
 
 impl<M: Master, D: Device> Ends<M, D> {
-    ghost use Rattle.std.specs.Prelude.{OnErr};
+    ghost use Rattle.std.specs.Prelude.{◌<◌, OnErr, Some, slice_get};
+    ghost use Rattle.process_network.specs.Star.{link};
     ghost use Rattle.process_network.specs.Star.StarStep.{HubTurn, LeafTurn, DeliverOut, DeliverBack};
     ghost use Rattle.cos_schedules.specs.Stars.{star_step};
     ghost use Rattle.machine_turns.specs.Ends.{fresh as fresh_machine};
-    ghost use Rattle.world.specs.Stars.{IsMoved, IsSound, hub_of, unsent};
+    ghost use Rattle.world.specs.Stars.{IsMoved, IsSound, hub_of, sent_on, unsent};
 
     /// Ends of which none has taken a turn or received anything.
     pub fn make(
@@ -140,6 +141,33 @@ impl<M: Master, D: Device> Ends<M, D> {
         ensures { self.now.hub ≡ hub_of result.now }
     {
         &self.machine
+    }
+
+    /// The number of ports.
+    pub fn ports(&self) -> usize
+        ensures { result ≡ length self.now.leaves }
+    {
+        self.seats.len()
+    }
+
+    /// The device end of a port.
+    pub fn device(&self, port: u32) -> &DeviceEnd<D>
+        requires { port < length self.now.leaves }
+        ensures { slice_get self.now.leaves port ≡ Some (leaf_of result.now) }
+    {
+        self.seats[port as usize].end()
+    }
+
+    /// The bytes that were sent on a port.
+    pub fn sent(&self, port: u32, way: Way) -> &[u8]
+        requires { port < length self.now.links }
+        ensures { result.now ≡ sent_on way (link self.now port) }
+    {
+        let seat = &self.seats[port as usize];
+        match way {
+            Way::Out => seat.out(),
+            Way::Back => seat.back(),
+        }
     }
 
     /// Takes a step. Did it change anything? `NoMemory` leaves all as it was.

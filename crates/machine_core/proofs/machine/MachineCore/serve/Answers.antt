@@ -28,8 +28,8 @@ invariant_of-self-2 g c =
           g.met.M.Master.lawful phase c.self.invariant.1,
     )
 
-pub returns : goal.returns
-returns g c =
+pub returns-clause-acts : goal.returns-clause-acts
+returns-clause-acts g c =
     let qs = c.self.inside.ports.items in
     let p = c.args.port in
     let one = ap (λ e. slice_get e.end.ports c.args.port) c.self.view_is ∙ c.requires.held.1 in

@@ -17,7 +17,7 @@ send-requires-clause-fits g c =
     has-room-for g.M.Master.model g.D.Device.model c.self.inside.machine c.turn.new.self c.self.inside.seats.items
     c.make_room.new.seats.items c.make_room.new.seats.items c.self.invariant c.clear.new.self.bytes c.turn.new.out.bytes
     c.as_slice.result.now c.clear.ensures.bytes c.as_slice.ensures c.make_room.ensures.leaves c.make_room.ensures.links _
-    c.self.view_is c.in-Ok-turn.turn c.in-Ok-turn.ensures.turns c.in-Ok-turn.ensures.front c.requires
+    c.self.view_is c.in-Ok-turn.turn c.in-Ok-turn.ensures.turns c.in-Ok-turn.ensures.front c.in-Ok-turn.ensures.few
 
 pub invariant_of-self-2 : goal.invariant_of-self-2
 invariant_of-self-2 g c =
