@@ -189,22 +189,22 @@ module _ {M : Type 0} where
   few-port None act each = tt
   few-port (Some q) act each = each q
 
-module _ {M : Type 0} (k : MasterModel M) (law : IsMaster k) (h : MachineEnd M Cause) where
+module _ {M : Type 0} (k : MasterModel M) (h : MachineEnd M Cause) where
   few-accesses : (m : M) (p : ℕ) (a : Access) (posted : Bool) (q : PortEnd) → a.size ≤ 8
       → Few (accesses k h m p a posted q)
   few-accesses m p a true q small = few-access q.session.common h.tick a small
   few-accesses m p a false q small = few-access q.session.common h.tick a small
 
-  few-works : (m : M) (o : Option Bus) → (k.issue h.master).1 ≡ o → Few (works k h m o)
-  few-works m None is = tt
-  few-works m (Some b) is =
+  few-works : IsMaster k → (m : M) (o : Option Bus) → (k.issue h.master).1 ≡ o → Few (works k h m o)
+  few-works law m None is = tt
+  few-works law m (Some b) is =
       few-port (slice_get h.ports b.port) _ (λ q. few-accesses m b.port b.access b.access.posted q
       (few-bytes b.access.size (law.issue_access h.master b is).1.size))
 
-  few-runs : (due : Bool) (qs : List PortEnd) → Few (runs k h due qs)
-  few-runs true [] = tt
-  few-runs true (q ∷ qs) = omega arith
-  few-runs false qs = few-works (k.issue h.master).0 (k.issue h.master).1 refl
+  few-runs : IsMaster k → (due : Bool) (qs : List PortEnd) → Few (runs k h due qs)
+  few-runs law true [] = tt
+  few-runs law true (q ∷ qs) = omega arith
+  few-runs law false qs = few-works law (k.issue h.master).0 (k.issue h.master).1 refl
 
 -- what each phase sends
 
@@ -223,4 +223,11 @@ module _ {M : Type 0} (k : MasterModel M) (old new : Core M) (before after : Lis
 
   pub few-run : IsMaster k → (due : Bool) (r : Result Turn NoMemory)
       → ActsBy (runs k old.end due old.end.ports) old new before after r → length after ≤ length before + 4176
-  few-run law due r does = few-acts _ old new before after r (few-runs k law old.end due old.end.ports) does
+  few-run law due r does = few-acts _ old new before after r (few-runs k old.end law due old.end.ports) does
+
+  pub few-send : (m : M) (p : ℕ) (a : Access) (posted : Bool) (t : Turn) → a.size ≤ 8
+      → Does (at_port (slice_get old.end.ports p) (accesses k old.end m p a posted)) old new before after t
+      → length after ≤ length before + 4176
+  few-send m p a posted t small does =
+      few-does _ old new before after t (few-port (slice_get old.end.ports p) (accesses k old.end m p a posted) (λ q.
+      few-accesses k old.end m p a posted q small)) does
