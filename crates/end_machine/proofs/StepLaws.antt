@@ -1,11 +1,11 @@
 -- One turn of drive: what its answer says of the end, and that there is less left to do.
 use Rattle.std.proofs.Common.{◌≡◌, ℕ, zero, suc, ◌+◌, ◌-◌, ◌*◌, ◌<◌, ◌≤◌, true, false, Bool, List, [], ◌∷◌, ◌++◌}
-use Rattle.std.proofs.Common.{length, drop, get_or, map, replicate, set, refl, sym, ap, ◌∙◌, subst, arith}
-use Rattle.std.proofs.Common.{length-append, Result, Ok, Err}
+use Rattle.std.proofs.Common.{length, drop, get_or, map, replicate, refl, sym, ap, ◌∙◌, subst, arith}
+use Rattle.std.proofs.Common.{length-append, Ok, Err}
 use Rattle.std.specs.Prelude.{Option, Some, None, if◌then◌else◌, option_map, slice_get}
 use Rattle.std.proofs.lemmas.Option.{none-some, same_Some}
 use Rattle.process_network.specs.PacketStar.{HubEnd, HubOutlook, hub_after_take, hub_turn_by, fresh_hub}
-use Rattle.process_network.specs.PacketStar.HubOutlook.{HubActs, HubWaits, HubHalts}
+use Rattle.process_network.specs.PacketStar.HubOutlook.{HubWaits}
 use Rattle.cosim_model.specs.declared.session.EndFault.{EndFault}
 use Rattle.cosim_model.specs.declared.session.EndFault.TheVariants as fault
 use Rattle.cosim_model.specs.declared.values.Bus.{Bus}
@@ -21,7 +21,7 @@ use Rattle.ends_model.specs.declared.ends.Turn.TheVariants as turn
 use Rattle.ends_model.specs.Answers.{answer_by, take_answer, unless_faulty}
 use Rattle.ends_model.specs.MachineTurn.{Act, MachineEnd, PortEnd, accesses, acts_in, acts_unless, at_port}
 use Rattle.ends_model.specs.MachineTurn.{first_true, gathers, greets, held_time, is_due, is_unknown, machine_acts}
-use Rattle.ends_model.specs.MachineTurn.{machine_outlook, machine_takes, outlook_of, runs, serves, serves_held}
+use Rattle.ends_model.specs.MachineTurn.{machine_outlook, outlook_of, runs, serves, serves_held}
 use Rattle.ends_model.specs.MachineTurn.{serves_least, syncs, works}
 use Rattle.ends_model.specs.MachineTurn.Act.{Works, Sends, Awaits, Serves, Marks, Rests, Fails, Lost}
 use Rattle.rp_framing.specs.FrontLaws.{first-few}
@@ -37,7 +37,6 @@ use Rattle.machine_turns.specs.RunLaws.{fed-ports}
 use Rattle.machine_turns.specs.Runs.{machine_alone, only_at}
 use Rattle.machine_turns.specs.Ends.{Advances, End, Goes, HasWorked, IsAtFront, IsBlamedAt, IsTurn, IsWaiting}
 use Rattle.machine_turns.specs.Ends.{Received, core_of, fed_at, held_at, held_of, more, put, taken_at, turn_of}
-use Rattle.end_machine.specs.declared.driving.Need.{Need}
 use Rattle.end_machine.specs.declared.driving.Need.TheVariants as need
 use Rattle.end_machine.specs.Going.{CanCome, KeptInRun, Turned, need_of, waiting_at, waiting_bytes}
 use Rattle.end_machine.proofs.Measures.{Holds, acts-on, left, takes-on}

@@ -1,7 +1,7 @@
 -- How many bytes are sent in a turn.
-use Rattle.std.proofs.Common.{◌≡◌, ℕ, zero, suc, ◌+◌, ◌/◌, ◌≤◌, Bool, true, false, List, [], ◌∷◌, ◌++◌, length, map}
-use Rattle.std.proofs.Common.{length-append, replicate, refl, sym, ap, ◌∙◌, subst, arith, Result, Ok, Err}
-use Rattle.std.specs.Prelude.{◌&&◌, not, if◌then◌else◌, nat_eq, nat_le, Option, Some, None, slice_get}
+use Rattle.std.proofs.Common.{◌≡◌, ℕ, zero, suc, ◌+◌, ◌/◌, ◌≤◌, Bool, true, false, List, [], ◌∷◌, ◌++◌, length}
+use Rattle.std.proofs.Common.{length-append, replicate, refl, ap, ◌∙◌, arith, Result, Ok, Err}
+use Rattle.std.specs.Prelude.{◌&&◌, if◌then◌else◌, nat_le, Option, Some, None, slice_get}
 use Rattle.std.proofs.lemmas.Bool.Decides.{nat_tests}
 use Rattle.std.proofs.lemmas.List.{length-map, length-replicate}
 use Rattle.cos_base.specs.declared.no_memory.NoMemory.{NoMemory}
@@ -15,7 +15,7 @@ use Rattle.cosim_model.specs.Parts.{MasterModel, IsMaster}
 use Rattle.cosim_model.specs.Sessions.{answer_of, ticket_of}
 use Rattle.cosim_model.specs.Values.{all_on, bits_of, bytes_of, masked}
 use Rattle.ends_model.specs.declared.ends.Turn.{Turn}
-use Rattle.ends_model.specs.DeviceTurn.{answer_fields, is_whole_width, refused_read, request_fields}
+use Rattle.ends_model.specs.DeviceTurn.{answer_fields, is_whole_width, refused_read}
 use Rattle.ends_model.specs.MachineTurn.{Act, MachineEnd, PortEnd, access_body, access_fields, accesses, at_port}
 use Rattle.ends_model.specs.MachineTurn.{bus_body, greets, is_master_size, payload_of, runs, serve_body, serve_read}
 use Rattle.ends_model.specs.MachineTurn.{serve_write, syncs, works}

@@ -1,10 +1,9 @@
 -- Local units of a master and of its end, up to the next boundary.
-use Rattle.std.proofs.Common.{◌≡◌, ℕ, zero, suc, ◌+◌, ◌-◌, ◌*◌, ◌/◌, ◌%◌, ◌<◌, ◌≤◌, Bool, true, false, List, length, min}
+use Rattle.std.proofs.Common.{◌≡◌, ℕ, zero, suc, ◌+◌, ◌-◌, ◌*◌, ◌/◌, ◌%◌, ◌<◌, ◌≤◌, Bool, true, false, List}
 use Rattle.std.proofs.Common.{refl, sym, ap, ◌∙◌, subst, arith, Result, Ok, Err}
 use Rattle.std.specs.Prelude.{not, ◌&&◌, ◌||◌, nat_eq, nat_lt, Option, Some, None, is_some, slice_get}
 use Rattle.std.proofs.Math.Nat.{mod-add-div'}
 use Rattle.std.proofs.lemmas.Bool.{eq-eqb, ne_eqb}
-use Rattle.std.proofs.lemmas.Bool.Decides.{nat_tests}
 use Rattle.std.proofs.lemmas.Nat.{mod-mul-add}
 use Rattle.cos_base.specs.declared.no_memory.NoMemory.{NoMemory}
 use Rattle.cosim_model.specs.declared.values.Access.{Access}
@@ -16,7 +15,6 @@ use Rattle.ends_model.specs.declared.ends.Phase.TheVariants.{Run, AnswerFrom}
 use Rattle.ends_model.specs.declared.ends.Turn.{Turn}
 use Rattle.ends_model.specs.MachineTurn.{Act, MachineEnd, PortEnd, accesses, acts_in, acts_unless, at_port}
 use Rattle.ends_model.specs.MachineTurn.{is_boundary_due, is_due, is_last, machine_acts, runs, unit_done, works}
-use Rattle.ends_model.specs.MachineTurn.Act.{Works}
 use Rattle.rp_packet.specs.declared.fault.Cause.{Cause}
 use Rattle.machine_core.specs.Machines.{Acts, Core, Does, IsMachine}
 use Rattle.machine_core.specs.Units.{Advances, AreAhead, AreLocal, HasWorked, Issues, TakesUnits}

@@ -29,7 +29,7 @@ use Rattle.machine_core.specs.Units.{Advances as CoreAdvances, HasWorked as Core
 use Rattle.machine_turns.specs.declared.fault.PortFault.{PortFault}
 use Rattle.machine_turns.specs.declared.fault.TurnFault.{TurnFault}
 use Rattle.machine_turns.specs.declared.fault.TurnFault.TheVariants as turn_fault
-use Rattle.machine_turns.specs.Ends.{Advances, End, GoesOn, HasRun, HasWorked, IsAtFront, IsTurn, Received}
+use Rattle.machine_turns.specs.Ends.{Advances, End, GoesOn, HasRun, HasWorked, IsAtFront, Received}
 use Rattle.machine_turns.specs.Ends.{Goes as IsSo, SendsAll, Turns, core_of, held_at, port_cause, received}
 use Rattle.machine_turns.specs.Runs.{machine_alone}
 use Rattle.machine_turns.specs.EndLaws.{call-all, call-runs, kept-all, kept-halts}

@@ -1,4 +1,4 @@
-use Rattle.std.proofs.Common.{◌≡◌, ◌+◌, ap, ◌∙◌, sym, arith, None}
+use Rattle.std.proofs.Common.{◌≡◌, ap, ◌∙◌, sym, arith, None}
 use Rattle.machine_core.proofs.Locals.{none-is, takes-one}
 use Rattle.machine_core.proofs.units.take_units.Goals as goal
 

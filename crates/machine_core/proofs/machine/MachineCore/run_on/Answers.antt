@@ -1,4 +1,4 @@
-use Rattle.std.proofs.Common.{ap, ◌∙◌, sym, refl, Ok}
+use Rattle.std.proofs.Common.{ap, ◌∙◌, refl, Ok}
 use Rattle.std.proofs.lemmas.Result.{err_from_is_err_and}
 use Rattle.machine_core.proofs.Few.{few-send}
 use Rattle.machine_core.proofs.Locals.{issued-access, issued-advances, issued-free, issued-machine, quiet-advances}
