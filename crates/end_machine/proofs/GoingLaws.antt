@@ -32,8 +32,8 @@ use Rattle.machine_turns.specs.declared.fault.TurnFault.{TurnFault}
 use Rattle.machine_turns.specs.declared.fault.TurnFault.TheVariants as turn_fault
 use Rattle.machine_turns.specs.Runs.{Grown, IsRun, Rests, Taking, only_at}
 use Rattle.machine_turns.specs.RunLaws.{fed-runs}
-use Rattle.machine_turns.specs.Ends.{End, GoesOn, HasRun, IsAtFront, IsAtRest, IsBlamedAt, IsPlacedAt, Pulls, RunsOn}
-use Rattle.machine_turns.specs.Ends.{Sends, SendsAll, Turns, core_of, held_at, port_cause, taken_at}
+use Rattle.machine_turns.specs.Ends.{Advances, End, GoesOn, HasRun, IsAtFront, IsAtRest, IsBlamedAt, IsPlacedAt, Pulls, RunsOn}
+use Rattle.machine_turns.specs.Ends.{Sends, SendsAll, core_of, held_at, port_cause, taken_at}
 use Rattle.end_machine.specs.Wires.{AllTell, Said, received_of, received_on, said_of, said_on, sent_of, sent_on}
 use Rattle.end_machine.specs.Talk.{EndsSo, FailsSo, HasParts, IfLink}
 use Rattle.end_machine.specs.Driving.{IsAllRead, IsDriven, IsInTime, IsPartly, Leaves, Tells}
@@ -230,11 +230,11 @@ module _ {M : Type 0} (k : MasterModel M) (start : MachineEnd M Cause) (said : S
 
   -- a turn that can't be taken, or that answers a fault
   pub turn-fails : (e new : End M) (before out : List ℕ) (now : List (Option Wire)) (f : TurnFault) → e.kept ≡ None
-      → Turns k e new before out (Err f) → GoesOn k e new before out (Err f) → SendsAll k (Err f) new
+      → Advances k e new before out (Err f) → GoesOn k e new before out (Err f) → SendsAll k (Err f) new
       → (e.kept ≡ None → IsAtFront e (Err f)) → Going k start said e now → Leaves k start said new.clear (Err f) now
   turn-fails e new before out now turn_fault.NoMemory none call goes all front going = still e now going
   turn-fails e new before out now (turn_fault.Port f) none call goes all front going =
-      faulted new f.port f.fault (taken_at e f.port) (held_at e f.port) now call.keeps (front none) all
+      faulted new f.port f.fault (taken_at e f.port) (held_at e f.port) now call.turns.keeps (front none) all
       (going-on e new before out now (Err (turn_fault.Port f)) (λ sent q. refl) goes going)
 
   -- a turn that sends nothing, or all that it sends was sent

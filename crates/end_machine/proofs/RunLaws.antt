@@ -30,7 +30,7 @@ use Rattle.end_machine.proofs.Measures.{Holds, start-holds, waits-there}
 use Rattle.end_machine.proofs.WireLaws.{tell-size, tell-some}
 use Rattle.end_machine.proofs.GoingLaws.{done-leaves, finished, run-as}
 use Rattle.end_machine.proofs.StepLaws.{need-stops, need-waits, read-less, remaining, step-moves, step-stops}
-use Rattle.end_machine.proofs.StepLaws.{step-waits, waits-outlook}
+use Rattle.end_machine.proofs.StepLaws.{step-waits, waits-outlook, worked-less}
 use Rattle.end_machine.proofs.DriveLaws.{telling-on}
 
 -- each of the wires is one
@@ -137,7 +137,9 @@ module _ {M : Type 0} (k : MasterModel M) (plan : Plan) (m : M) (n : ℕ) where
       → p < n
   step-there p old new t is turned holds =
       let waits = step-waits k p old new t is turned in
-      waits-there k plan n (core_of new) (subst (λ (e : End M). Holds k plan n (core_of e)) (sym waits.1) holds) p
+      let call = turned.2 in
+      let had = worked-less k plan n call.units old call.mid call.worked holds in
+      waits-there k plan n (core_of new) (subst (λ (e : End M). Holds k plan n (core_of e)) (sym waits.1) had.0) p
       (waits-outlook k p new waits.0)
 
   pub stops-leaves : (said : Said) (old new : End M) (t : Turn) (now : List (Option Wire)) → need_of t ≡ need.Nothing
@@ -153,12 +155,16 @@ module _ {M : Type 0} (k : MasterModel M) (plan : Plan) (m : M) (n : ℕ) where
       → Holds k plan n (core_of new) × (remaining k plan n new < remaining k plan n old)
   read-holds p old mid new t r more is turned holds size fed =
       let waits = step-waits k p old mid t is turned in
-      let mid_holds = subst (λ (e : End M). Holds k plan n (core_of e)) (sym waits.1) holds in
+      let call = turned.2 in
+      let had = worked-less k plan n call.units old call.mid call.worked holds in
+      let mid_holds = subst (λ (e : End M). Holds k plan n (core_of e)) (sym waits.1) had.0 in
       let there = step-there p old mid t is turned holds in
       let came = subst (λ r. Fed p mid new (Ok r)) more fed in
       let less = read-less k plan n p mid new came.0 (omega (arith, there, size)) waits.0 came.1 came.2 in (
         subst (Holds k plan n) (sym less.0) mid_holds,
-        subst (λ (e : End M). remaining k plan n new < remaining k plan n e) waits.1 less.1,
+        (let falls = less.1 in
+        let same = ap (remaining k plan n) waits.1 in
+        let few = had.1 in omega (arith, falls, same, few)),
       )
 
   pub ends-leaves : (said : Said) (p : ℕ) (old mid new : End M) (t : Turn) (r : Pulled) (x : EndFault PacketFault)

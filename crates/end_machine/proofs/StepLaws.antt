@@ -1,12 +1,13 @@
 -- One turn of drive: what its answer says of the end, and that there is less left to do.
 use Rattle.std.proofs.Common.{◌≡◌, ℕ, zero, suc, ◌+◌, ◌-◌, ◌*◌, ◌<◌, ◌≤◌, true, false, Bool, List, [], ◌∷◌, ◌++◌}
-use Rattle.std.proofs.Common.{length, drop, get_or, map, replicate, set, refl, sym, ap, ◌∙◌, subst, arith}
-use Rattle.std.proofs.Common.{length-append, Result, Ok, Err}
+use Rattle.std.proofs.Common.{length, drop, get_or, map, replicate, refl, sym, ap, ◌∙◌, subst, arith}
+use Rattle.std.proofs.Common.{length-append, Ok, Err}
 use Rattle.std.specs.Prelude.{Option, Some, None, if◌then◌else◌, option_map, slice_get}
 use Rattle.std.proofs.lemmas.Option.{none-some, same_Some}
 use Rattle.process_network.specs.PacketStar.{HubEnd, HubOutlook, hub_after_take, hub_turn_by, fresh_hub}
-use Rattle.process_network.specs.PacketStar.HubOutlook.{HubActs, HubWaits, HubHalts}
+use Rattle.process_network.specs.PacketStar.HubOutlook.{HubWaits}
 use Rattle.cosim_model.specs.declared.session.EndFault.{EndFault}
+use Rattle.cosim_model.specs.declared.session.EndFault.TheVariants as fault
 use Rattle.cosim_model.specs.declared.values.Bus.{Bus}
 use Rattle.cosim_model.specs.declared.values.Plan.{Plan}
 use Rattle.cosim_model.specs.Order.{least}
@@ -20,22 +21,24 @@ use Rattle.ends_model.specs.declared.ends.Turn.TheVariants as turn
 use Rattle.ends_model.specs.Answers.{answer_by, take_answer, unless_faulty}
 use Rattle.ends_model.specs.MachineTurn.{Act, MachineEnd, PortEnd, accesses, acts_in, acts_unless, at_port}
 use Rattle.ends_model.specs.MachineTurn.{first_true, gathers, greets, held_time, is_due, is_unknown, machine_acts}
-use Rattle.ends_model.specs.MachineTurn.{machine_outlook, machine_takes, outlook_of, runs, serves, serves_held}
+use Rattle.ends_model.specs.MachineTurn.{machine_outlook, outlook_of, runs, serves, serves_held}
 use Rattle.ends_model.specs.MachineTurn.{serves_least, syncs, works}
 use Rattle.ends_model.specs.MachineTurn.Act.{Works, Sends, Awaits, Serves, Marks, Rests, Fails, Lost}
 use Rattle.rp_framing.specs.FrontLaws.{first-few}
 use Rattle.rp_packet.specs.declared.fault.Cause.{Cause}
 use Rattle.rp_packet.specs.Refusals.{first}
 use Rattle.rp_packet.specs.Streams.{packet_codec}
+use Rattle.rp_packet.specs.declared.fault.PacketFault.{PacketFault}
 use Rattle.machine_turns.specs.declared.fault.PortFault.{PortFault}
+use Rattle.machine_turns.specs.declared.fault.TurnFault.{TurnFault}
+use Rattle.machine_turns.specs.declared.fault.TurnFault.TheVariants as turn_fault
 use Rattle.machine_core.specs.Machines.{awaited}
 use Rattle.machine_turns.specs.RunLaws.{fed-ports}
 use Rattle.machine_turns.specs.Runs.{machine_alone, only_at}
-use Rattle.machine_turns.specs.Ends.{End, Goes, IsTurn, IsWaiting, Received, core_of, fed_at, held_at, held_of, more}
-use Rattle.machine_turns.specs.Ends.{put, turn_of}
-use Rattle.end_machine.specs.declared.driving.Need.{Need}
+use Rattle.machine_turns.specs.Ends.{Advances, End, Goes, HasWorked, IsAtFront, IsBlamedAt, IsTurn, IsWaiting}
+use Rattle.machine_turns.specs.Ends.{Received, core_of, fed_at, held_at, held_of, more, put, taken_at, turn_of}
 use Rattle.end_machine.specs.declared.driving.Need.TheVariants as need
-use Rattle.end_machine.specs.Going.{Turned, need_of, waiting_at, waiting_bytes}
+use Rattle.end_machine.specs.Going.{CanCome, KeptInRun, Turned, need_of, waiting_at, waiting_bytes}
 use Rattle.end_machine.proofs.Measures.{Holds, acts-on, left, takes-on}
 use Rattle.end_machine.proofs.WireLaws.{itself, there-some}
 
@@ -312,12 +315,28 @@ module _ {M : Type 0} (k : MasterModel M) where
         times-less : (a b c d : ℕ) → a < b → a * 65557 + (65556 - c) < b * 65557 + (65556 - d)
         times-less a b c d less = omega (arith, less)
 
+    -- local units leave no more to do
+    pub worked-less : (units : ℕ) (old mid : End M) → HasWorked k units old mid → Holds k plan n (core_of old)
+        → Holds k plan n (core_of mid) × (remaining mid ≤ remaining old)
+    worked-less zero old mid worked holds =
+        let same = ap remaining worked in
+        (subst (λ (e : End M). Holds k plan n (core_of e)) (sym worked) holds, omega (arith, same))
+    worked-less (suc units) old mid (next, one, rest) holds =
+        let less = moves-less old next turn.Unit [] [] None tt holds (one []) in
+        let falls = turned-less old next less.1 in
+        let more = worked-less units next mid rest less.0 in
+        (more.0, (let few = more.1 in omega (arith, falls, few)))
+
     pub step-moves : (old new : End M) (t : Turn) → need_of t ≡ need.Turn → Turned k old new t
         → Holds k plan n (core_of old)
         → Holds k plan n (core_of new) × (remaining new < remaining old)
     step-moves old new t is turned holds =
-        let less = moves-less old new t turned.0 turned.1 None (need-moves t is) holds turned.2 in
-        (less.0, turned-less old new less.1)
+        let call = turned.2 in
+        let had = worked-less call.units old call.mid call.worked holds in
+        let less = moves-less call.mid new t turned.0 turned.1 None (need-moves t is) had.0 call.turns in
+        let falls = turned-less call.mid new less.1 in
+        let few = had.1 in
+        (less.0, omega (arith, falls, few))
 
     -- One read of a port that is awaited.
 
@@ -362,15 +381,41 @@ module _ {M : Type 0} (k : MasterModel M) where
 
   -- What a step says by what the end needs then.
 
-  pub step-waits : (p : ℕ) (old new : End M) (t : Turn) → need_of t ≡ need.Bytes p → Turned k old new t
-      → IsWaiting k p new × (new ≡ old)
+  pub step-waits : (p : ℕ) (old new : End M) (t : Turn) → need_of t ≡ need.Bytes p → (turned : Turned k old new t)
+      → IsWaiting k p new × (new ≡ turned.2.mid)
   step-waits p old new t is turned =
-      let call = subst (λ t. IsTurn k old new turned.0 turned.1 (Ok t) None) (need-waits t p is) turned.2 in
-      let same = waits-same p old new turned.0 turned.1 None call in
+      let mid = turned.2.mid in
+      let call = subst (λ t. IsTurn k mid new turned.0 turned.1 (Ok t) None) (need-waits t p is) turned.2.turns in
+      let same = waits-same p mid new turned.0 turned.1 None call in
       (subst (IsWaiting k p) (sym same) call.answers, same)
 
   pub step-stops : (old new : End M) (t : Turn) → need_of t ≡ need.Nothing → Turned k old new t → new.clear.phase ≡ Done
   step-stops old new t is turned =
-      let call = subst (λ t. IsTurn k old new turned.0 turned.1 (Ok t) None) (need-stops t is) turned.2 in
-      ap (λ (e : End M). e.clear.phase) (done-same old new turned.0 turned.1 None call)
-      ∙ turned-done old new turned.0 turned.1 None call
+      let mid = turned.2.mid in
+      let call = subst (λ t. IsTurn k mid new turned.0 turned.1 (Ok t) None) (need-stops t is) turned.2.turns in
+      ap (λ (e : End M). e.clear.phase) (done-same mid new turned.0 turned.1 None call)
+      ∙ turned-done mid new turned.0 turned.1 None call
+
+  -- What is kept after a call that answers a fault.
+
+  can-come : (taken : ℕ) (held : List ℕ) (x : EndFault PacketFault) → IsBlamedAt taken held x → CanCome x
+  can-come taken held (fault.Malformed f) blamed = tt
+  can-come taken held (fault.Session f) blamed = tt
+  can-come taken held (fault.LateWant at got) blamed = tt
+  can-come taken held (fault.Truncated start rest) blamed = absurd blamed
+  can-come taken held (fault.Ended count) blamed = absurd blamed
+  can-come taken held (fault.TooMuch count) blamed = absurd blamed
+  can-come taken held (fault.Link count) blamed = absurd blamed
+  can-come taken held (fault.Astray cmd) blamed = absurd blamed
+  can-come taken held fault.NoMemory blamed = absurd blamed
+
+  worked-kept : (units : ℕ) (old mid : End M) → HasWorked k units old mid → old.kept ≡ None → mid.kept ≡ None
+  worked-kept zero old mid worked kept = ap (λ (e : End M). e.kept) worked ∙ kept
+  worked-kept (suc units) old mid (next, one, rest) kept = worked-kept units next mid rest (one []).keeps
+
+  pub step-kept : (old new : End M) (before after : List ℕ) (f : TurnFault) → Advances k old new before after (Err f)
+      → old.kept ≡ None → IsAtFront old (Err f) → KeptInRun {A = Turn} (Err f) new.kept
+  step-kept old new before after (turn_fault.Port f) call kept front =
+      can-come (taken_at old f.port) (held_at old f.port) f.fault front
+  step-kept old new before after turn_fault.NoMemory call kept front =
+      ap (λ (e : End M). e.kept) call.turns.0 ∙ worked-kept call.units old call.mid call.worked kept

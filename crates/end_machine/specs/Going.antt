@@ -21,7 +21,7 @@ use Rattle.machine_turns.specs.declared.fault.TurnFault.{TurnFault}
 use Rattle.machine_turns.specs.declared.fault.TurnFault.TheVariants as turn_fault
 use Rattle.machine_turns.specs.Runs.{only_at}
 use Rattle.machine_core.specs.Machines.{awaited}
-use Rattle.machine_turns.specs.Ends.{End, HasRun, IsTurn, core_of, fed_at, held_at, taken_at}
+use Rattle.machine_turns.specs.Ends.{Advances, End, HasRun, core_of, fed_at, held_at, taken_at}
 use Rattle.end_machine.specs.declared.driving.Need.{Need}
 use Rattle.end_machine.specs.declared.driving.Need.TheVariants as need
 use Rattle.end_machine.specs.Wires.{AllTell, Said, received_on, said_on, sent_on}
@@ -99,9 +99,9 @@ FinishesBy e p (fault.Truncated start held) =
     (start ≡ taken_at e p) × (held ≡ length (held_at e p)) × (1 ≤ held)
 FinishesBy e p f = ⊥
 
--- the call took a turn that answered this
+-- the call took local units, and then a turn that answered this
 abbrev pub Turned : {M : Type 0} → MasterModel M → End M → End M → Turn → Type 0
-Turned k old new t = (before : List ℕ) × (after : List ℕ) × IsTurn k old new before after (Ok t) None
+Turned k old new t = (before : List ℕ) × (after : List ℕ) × Advances k old new before after (Ok t)
 
 -- a fault that driving answers
 abbrev pub CanCome : EndFault PacketFault → Type 0

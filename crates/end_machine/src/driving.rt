@@ -63,7 +63,7 @@ fn need_after(turn: Turn) -> Need
     }
 }
 
-/// Takes one turn, and sends what it sends.
+/// Takes the local units that come next and then one turn, and sends what that sends.
 fn step<M: Master, L: Link>(
     end: &mut MachineEnd<M>,
     links: &mut [L],
@@ -80,7 +80,7 @@ fn step<M: Master, L: Link>(
     ensures goes { KeepsGoing M.model (length links.old) end.old end.new (map L.told links.old) (map L.told links.new) result }
 {
     out.clear();
-    let turn = match end.turn(out) {
+    let turn = match end.advance(out) {
         Ok(turn) => turn,
         Err(fault) => return Err(fault),
     };

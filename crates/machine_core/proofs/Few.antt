@@ -1,7 +1,7 @@
 -- How many bytes are sent in a turn.
-use Rattle.std.proofs.Common.{◌≡◌, ℕ, zero, suc, ◌+◌, ◌/◌, ◌≤◌, Bool, true, false, List, [], ◌∷◌, ◌++◌, length, map}
-use Rattle.std.proofs.Common.{length-append, replicate, refl, sym, ap, ◌∙◌, subst, arith, Result, Ok, Err}
-use Rattle.std.specs.Prelude.{◌&&◌, not, if◌then◌else◌, nat_eq, nat_le, Option, Some, None, slice_get}
+use Rattle.std.proofs.Common.{◌≡◌, ℕ, zero, suc, ◌+◌, ◌/◌, ◌≤◌, Bool, true, false, List, [], ◌∷◌, ◌++◌, length}
+use Rattle.std.proofs.Common.{length-append, replicate, refl, ap, ◌∙◌, arith, Result, Ok, Err}
+use Rattle.std.specs.Prelude.{◌&&◌, if◌then◌else◌, nat_le, Option, Some, None, slice_get}
 use Rattle.std.proofs.lemmas.Bool.Decides.{nat_tests}
 use Rattle.std.proofs.lemmas.List.{length-map, length-replicate}
 use Rattle.cos_base.specs.declared.no_memory.NoMemory.{NoMemory}
@@ -15,7 +15,7 @@ use Rattle.cosim_model.specs.Parts.{MasterModel, IsMaster}
 use Rattle.cosim_model.specs.Sessions.{answer_of, ticket_of}
 use Rattle.cosim_model.specs.Values.{all_on, bits_of, bytes_of, masked}
 use Rattle.ends_model.specs.declared.ends.Turn.{Turn}
-use Rattle.ends_model.specs.DeviceTurn.{answer_fields, is_whole_width, refused_read, request_fields}
+use Rattle.ends_model.specs.DeviceTurn.{answer_fields, is_whole_width, refused_read}
 use Rattle.ends_model.specs.MachineTurn.{Act, MachineEnd, PortEnd, access_body, access_fields, accesses, at_port}
 use Rattle.ends_model.specs.MachineTurn.{bus_body, greets, is_master_size, payload_of, runs, serve_body, serve_read}
 use Rattle.ends_model.specs.MachineTurn.{serve_write, syncs, works}
@@ -189,22 +189,22 @@ module _ {M : Type 0} where
   few-port None act each = tt
   few-port (Some q) act each = each q
 
-module _ {M : Type 0} (k : MasterModel M) (law : IsMaster k) (h : MachineEnd M Cause) where
+module _ {M : Type 0} (k : MasterModel M) (h : MachineEnd M Cause) where
   few-accesses : (m : M) (p : ℕ) (a : Access) (posted : Bool) (q : PortEnd) → a.size ≤ 8
       → Few (accesses k h m p a posted q)
   few-accesses m p a true q small = few-access q.session.common h.tick a small
   few-accesses m p a false q small = few-access q.session.common h.tick a small
 
-  few-works : (m : M) (o : Option Bus) → (k.issue h.master).1 ≡ o → Few (works k h m o)
-  few-works m None is = tt
-  few-works m (Some b) is =
+  few-works : IsMaster k → (m : M) (o : Option Bus) → (k.issue h.master).1 ≡ o → Few (works k h m o)
+  few-works law m None is = tt
+  few-works law m (Some b) is =
       few-port (slice_get h.ports b.port) _ (λ q. few-accesses m b.port b.access b.access.posted q
       (few-bytes b.access.size (law.issue_access h.master b is).1.size))
 
-  few-runs : (due : Bool) (qs : List PortEnd) → Few (runs k h due qs)
-  few-runs true [] = tt
-  few-runs true (q ∷ qs) = omega arith
-  few-runs false qs = few-works (k.issue h.master).0 (k.issue h.master).1 refl
+  few-runs : IsMaster k → (due : Bool) (qs : List PortEnd) → Few (runs k h due qs)
+  few-runs law true [] = tt
+  few-runs law true (q ∷ qs) = omega arith
+  few-runs law false qs = few-works law (k.issue h.master).0 (k.issue h.master).1 refl
 
 -- what each phase sends
 
@@ -223,4 +223,11 @@ module _ {M : Type 0} (k : MasterModel M) (old new : Core M) (before after : Lis
 
   pub few-run : IsMaster k → (due : Bool) (r : Result Turn NoMemory)
       → ActsBy (runs k old.end due old.end.ports) old new before after r → length after ≤ length before + 4176
-  few-run law due r does = few-acts _ old new before after r (few-runs k law old.end due old.end.ports) does
+  few-run law due r does = few-acts _ old new before after r (few-runs k old.end law due old.end.ports) does
+
+  pub few-send : (m : M) (p : ℕ) (a : Access) (posted : Bool) (t : Turn) → a.size ≤ 8
+      → Does (at_port (slice_get old.end.ports p) (accesses k old.end m p a posted)) old new before after t
+      → length after ≤ length before + 4176
+  few-send m p a posted t small does =
+      few-does _ old new before after t (few-port (slice_get old.end.ports p) (accesses k old.end m p a posted) (λ q.
+      few-accesses k old.end m p a posted q small)) does

@@ -6,6 +6,7 @@ mod Greeting
 mod Syncing
 mod Working
 mod Few
+mod Locals
 mod Fresh
 mod Gathering
 mod Hearing

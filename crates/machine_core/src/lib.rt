@@ -13,6 +13,7 @@ mod port;
 mod ports;
 mod requests;
 mod services;
+mod units;
 
 pub use fault::HearFault;
 pub use machine::{MOST_SENT, MachineCore};

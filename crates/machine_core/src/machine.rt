@@ -7,6 +7,7 @@ use crate::fault::HearFault;
 use crate::port::MachinePort;
 use crate::ports::{begin_waits, first_held, first_unknown, fresh_ports};
 use crate::services::service_turn;
+use crate::units::{take_units, units_ahead};
 use cos_api::{Call, Calls, Master, plain};
 use cos_base::{NoMemory, Octets};
 use cosim_model::{Access, Answer, Event, Plan, SessionFault};
@@ -80,6 +81,7 @@ impl<M: Master> MachineCore<M> {
     ghost use Rattle.rp_packet.specs.Values.{value_of};
     ghost use Rattle.rp_packet.specs.declared.fault.Cause.{Cause};
     ghost use Rattle.machine_core.specs.Machines.{Acts, ActsBy, Becomes, Does, Hears, MayAnswer, MayHold, Took, awaited, is_late};
+    ghost use Rattle.machine_core.specs.Units.{Advances};
 
     /// An end that has done nothing, with so many ports. It offers all capabilities, and needs none.
     pub fn make(
@@ -197,6 +199,25 @@ impl<M: Master> MachineCore<M> {
         }
     }
 
+    /// Takes the local units that come next, up to the next boundary or access, and then one turn as `act` does. `NoMemory`
+    /// leaves the end behind the units that were done.
+    pub fn advance(&mut self, out: &mut Octets) -> Result<Turn, NoMemory>
+        requires calls { 1 ≤ self.old.room }
+        requires room { 4176 ≤ out.old.spare }
+        ensures advances { Advances M.model self.old self.new out.old.bytes out.new.bytes result }
+        ensures clear { self.new.end.fault ≡ None }
+        ensures few { length out.new.bytes ≤ length out.old.bytes + 4176 }
+    {
+        match self.phase {
+            Phase::Run => {
+                let turn = self.run_on(out);
+                self.is_clear();
+                turn
+            }
+            _ => self.act(out),
+        }
+    }
+
     /// No fault is kept here.
     fn is_clear(&self)
         ensures { self.now.end.fault ≡ None }
@@ -238,6 +259,31 @@ impl<M: Master> MachineCore<M> {
         }
         self.phase = Phase::SyncTo { port: 0 };
         Ok(self.sync(0, out))
+    }
+
+    /// Local units up to the next boundary or access, and the turn that comes then.
+    fn run_on(&mut self, out: &mut Octets) -> Result<Turn, NoMemory>
+        requires phase { self.old.end.phase ≡ Phase.Run }
+        requires calls { 1 ≤ self.old.room }
+        requires room { 4176 ≤ out.old.spare }
+        ensures advances { Advances M.model self.old self.new out.old.bytes out.new.bytes result }
+        ensures few { length out.new.bytes ≤ length out.old.bytes + 4176 }
+    {
+        let ahead = units_ahead(&self.master, self.plan, self.tick, self.marked);
+        let mut left = ahead;
+        let issued = take_units(&mut self.master, &mut left);
+        self.tick += ahead - left;
+        self.marked &= left == ahead;
+        match issued? {
+            Some(bus) => {
+                self.phase = Phase::AnswerFrom {
+                    port: bus.port,
+                    access: bus.access,
+                };
+                Ok(self.send(bus.port, bus.access, out))
+            }
+            None => self.act(out),
+        }
     }
 
     /// Sends a boundary's sync on a port.

@@ -1,3 +1,4 @@
+mod Advancing
 mod Fronts
 mod Ports
 mod Pulling

@@ -1,6 +1,6 @@
 -- What contracts see of a machine end with the bytes that it received: its core, the fault that it keeps, and by port
 -- the bytes that it did not take yet; and what a call of its turn does.
-use Rattle.std.specs.Prelude.{◌≡◌, ℕ, ◌+◌, ◌<◌, ◌≤◌, List, [], ◌++◌, length, drop, get_or, Option, Some, None}
+use Rattle.std.specs.Prelude.{◌≡◌, ℕ, zero, suc, ◌+◌, ◌<◌, ◌≤◌, List, [], ◌++◌, length, drop, get_or, Option, Some, None}
 use Rattle.std.specs.Prelude.{option_map, Result, Ok, Err, set, slice_get, replicate, Bool, true, false}
 use Rattle.process_network.specs.Network.{Streams}
 use Rattle.process_network.specs.PacketStar.{HubEnd, hub_turn_by, fresh_hub}
@@ -135,6 +135,21 @@ Turns k old new before after (Ok t) = IsTurn k old new before after (Ok t) None
 Turns k old new before after (Err (turn_fault.Port f)) =
     IsTurn k old new before after (Err (port_cause f)) (Some f)
 Turns k old new before after (Err turn_fault.NoMemory) = (new ≡ old) × (after ≡ before)
+
+-- so many local units, each a turn of its own that sends nothing
+abbrev pub HasWorked : {M : Type 0} → MasterModel M → ℕ → End M → End M → Type 0
+HasWorked k zero old new = new ≡ old
+HasWorked {M} k (suc n) old new =
+    (next : End M) × ((sent : List ℕ) → IsTurn k old next sent sent (Ok turn.Unit) None) × HasWorked k n next new
+
+-- A call of advance: local units were taken, which take no bytes, and then a call of turn.
+pub record Advances {M : Type 0} (k : MasterModel M) (old new : End M) (before after : List ℕ)
+    (r : Result Turn TurnFault) : Type 0 where
+  pub units : ℕ
+  pub mid : End M
+  pub worked : HasWorked k units old mid
+  pub ports : mid.ports ≡ old.ports
+  pub turns : Turns k mid new before after r
 
 -- Bytes of a port are received. Those of a port that is not there, and those that come after a fault, are dropped.
 

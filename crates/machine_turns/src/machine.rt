@@ -47,7 +47,7 @@ impl<M: Master> MachineEnd<M> {
     ghost use Rattle.machine_core.specs.Machines.{awaited};
     ghost use Rattle.machine_turns.specs.declared.fault.PortFault.{PortFault};
     ghost use Rattle.machine_turns.specs.declared.fault.TurnFault.TheVariants as turn_fault;
-    ghost use Rattle.machine_turns.specs.Ends.{GoesOn, IsAtFront, IsWaiting, Pulls, RunsOn, SendsAll, Turns};
+    ghost use Rattle.machine_turns.specs.Ends.{Advances, GoesOn, IsAtFront, IsWaiting, Pulls, RunsOn, SendsAll, Turns};
     ghost use Rattle.machine_turns.specs.Ends.{answer_of, fed_at, fresh, held_at, kept_after, moves, taken_at};
     ghost use Rattle.rp_framing.specs.Receiving.{ReceiveCounts, ReceiveSound};
 
@@ -201,6 +201,48 @@ impl<M: Master> MachineEnd<M> {
             Some(port) => self.hear_front(port),
             None => self.act(out),
         }
+    }
+
+    /// Takes the local units that come next, up to the next boundary or access, and then one turn, as `turn` does. After want of
+    /// memory it may have taken units, and no more.
+    pub fn advance(&mut self, out: &mut Octets) -> Result<Turn, TurnFault>
+        ensures advances { Advances M.model self.old self.new out.old.bytes out.new.bytes result }
+        ensures kept { (f : PortFault) → self.old.kept ≡ Some f → result ≡ Err (turn_fault.Port f) }
+        ensures front { self.old.kept ≡ None → IsAtFront self.old result }
+        ensures runs { GoesOn M.model self.old self.new out.old.bytes out.new.bytes result }
+        ensures all { SendsAll M.model result self.new }
+        ensures few { length out.new.bytes ≤ length out.old.bytes + 4176 }
+    {
+        if let Some(kept) = self.fault {
+            return Err(TurnFault::Port(kept));
+        }
+        match self.core.awaits() {
+            Some(port) => self.hear_front(port),
+            None => self.act_on(out),
+        }
+    }
+
+    /// Local units, and a turn that takes no packet. All room that they can need is made first.
+    fn act_on(&mut self, out: &mut Octets) -> Result<Turn, TurnFault>
+        requires kept { self.old.kept ≡ None }
+        requires acts { awaited (machine_acts M.model self.old.clear) ≡ None }
+        ensures advances { Advances M.model self.old self.new out.old.bytes out.new.bytes result }
+        ensures front { IsAtFront self.old result }
+        ensures few { length out.new.bytes ≤ length out.old.bytes + 4176 }
+    {
+        match out.reserve(MOST_SENT) {
+            Ok(()) => {}
+            Err(NoMemory) => return Err(TurnFault::NoMemory),
+        }
+        match self.core.reserve_calls() {
+            Ok(()) => {}
+            Err(NoMemory) => return Err(TurnFault::NoMemory),
+        }
+        let turn = match self.core.advance(out) {
+            Ok(turn) => turn,
+            Err(NoMemory) => return Err(TurnFault::NoMemory),
+        };
+        Ok(turn)
     }
 
     /// A turn that takes no packet. All room that it can need is made first.
