@@ -122,6 +122,11 @@ module _ {M S : Type 0} (k : MasterModel M) (d : DeviceModel S) where
   IsRun schedule old new =
       (steps : List Step) × BeginsWith schedule (length old.start.ports) steps × HasTaken old new steps
 
+  -- Under the schedule the world that begins so comes to its end by so many steps that change something, and no sooner.
+  abbrev pub EndsAfter : Schedule → Start M S → ℕ → Type 0
+  EndsAfter schedule s n = (w : WorldValue M S) × IsRun schedule (fresh_world s) w
+      × (w.now.hub.core.phase ≡ Done) × (w.effective ≡ n)
+
   -- A beginning of a list was taken so: all of it, or up to where the machine end is done, or memory ran out.
   abbrev pub TakesOf : List Step → WorldValue M S → WorldValue M S → Result Unit NoMemory → Type 0
   TakesOf list old new result =
