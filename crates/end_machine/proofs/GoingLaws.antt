@@ -32,8 +32,8 @@ use Rattle.machine_turns.specs.declared.fault.TurnFault.{TurnFault}
 use Rattle.machine_turns.specs.declared.fault.TurnFault.TheVariants as turn_fault
 use Rattle.machine_turns.specs.Runs.{Grown, IsRun, Rests, Taking, only_at}
 use Rattle.machine_turns.specs.RunLaws.{fed-runs}
-use Rattle.machine_turns.specs.Ends.{Advances, End, GoesOn, HasRun, IsAtFront, IsAtRest, IsBlamedAt, IsPlacedAt, Pulls, RunsOn}
-use Rattle.machine_turns.specs.Ends.{Sends, SendsAll, core_of, held_at, port_cause, taken_at}
+use Rattle.machine_turns.specs.Ends.{Advances, End, GoesOn, HasRun, IsAtFront, IsAtRest, IsBlamedAt, IsPlacedAt}
+use Rattle.machine_turns.specs.Ends.{Pulls, RunsOn, Sends, SendsAll, core_of, held_at, port_cause, taken_at}
 use Rattle.end_machine.specs.Wires.{AllTell, Said, received_of, received_on, said_of, said_on, sent_of, sent_on}
 use Rattle.end_machine.specs.Talk.{EndsSo, FailsSo, HasParts, IfLink}
 use Rattle.end_machine.specs.Driving.{IsAllRead, IsDriven, IsInTime, IsPartly, Leaves, Tells}

@@ -163,8 +163,8 @@ module _ {M : Type 0} (k : MasterModel M) (plan : Plan) (m : M) (n : ℕ) where
       let less = read-less k plan n p mid new came.0 (omega (arith, there, size)) waits.0 came.1 came.2 in (
         subst (Holds k plan n) (sym less.0) mid_holds,
         (let falls = less.1 in
-        let same = ap (remaining k plan n) waits.1 in
-        let few = had.1 in omega (arith, falls, same, few)),
+            let same = ap (remaining k plan n) waits.1 in
+            let few = had.1 in omega (arith, falls, same, few)),
       )
 
   pub ends-leaves : (said : Said) (p : ℕ) (old mid new : End M) (t : Turn) (r : Pulled) (x : EndFault PacketFault)

@@ -1,10 +1,8 @@
 -- Local units of a master and of its end, up to the next boundary.
-use Rattle.std.proofs.Common.{◌≡◌, ℕ, zero, suc, ◌+◌, ◌-◌, ◌*◌, ◌/◌, ◌%◌, ◌<◌, ◌≤◌, Bool, true, false, List}
+use Rattle.std.proofs.Common.{◌≡◌, ℕ, zero, suc, ◌+◌, ◌-◌, ◌<◌, ◌≤◌, Bool, true, false, List}
 use Rattle.std.proofs.Common.{refl, sym, ap, ◌∙◌, subst, arith, Result, Ok, Err}
-use Rattle.std.specs.Prelude.{not, ◌&&◌, ◌||◌, nat_eq, nat_lt, Option, Some, None, is_some, slice_get}
-use Rattle.std.proofs.Math.Nat.{mod-add-div'}
+use Rattle.std.specs.Prelude.{not, ◌&&◌, ◌||◌, nat_eq, Option, Some, None, is_some, slice_get}
 use Rattle.std.proofs.lemmas.Bool.{eq-eqb, ne_eqb}
-use Rattle.std.proofs.lemmas.Nat.{mod-mul-add}
 use Rattle.cos_base.specs.declared.no_memory.NoMemory.{NoMemory}
 use Rattle.cosim_model.specs.declared.values.Access.{Access}
 use Rattle.cosim_model.specs.declared.values.Bus.{Bus}
@@ -37,9 +35,6 @@ module _ {M : Type 0} (k : MasterModel M) where
   one-more (suc n) old now next runs is local =
       (local.0, local.1, local.2, one-more n local.0 now next runs is local.3)
 
-  pub none-taken : (most : ℕ) (m : M) → Taken k most most m m
-  none-taken most m = record { units = 0; count = omega arith; local = refl }
-
   pub takes-one : (most left less : ℕ) (old now next : M) → k.stopped now ≡ None → k.issue now ≡ (next, None)
       → less + 1 ≡ left → Taken k most left old now → Taken k most less old next
   takes-one most left less old now next runs is down taken =
@@ -48,53 +43,6 @@ module _ {M : Type 0} (k : MasterModel M) where
         count = omega (arith, count, down);
         local = one-more taken.units old now next runs is taken.local;
       }
-
-  pub takes-so : (most left : ℕ) (old now new : M) (r : Result (Option Bus) NoMemory) → Taken k most left old now
-      → Issues k left now new r → TakesUnits k most left old new r
-  takes-so most left old now new r taken issues = record {
-    units = taken.units;
-    mid = now;
-    count = taken.count;
-    local = taken.local;
-    issues = issues;
-  }
-
--- Ticks between two multiples of the quantum are none.
-
-between : (quantum tick t : ℕ) → tick < t → t < tick + (quantum - tick % quantum) → 0 < t % quantum
-between quantum tick t low high =
-    let whole = mod-add-div' tick quantum in
-    let rest : t ≡ tick / quantum * quantum + (tick % quantum + (t - tick)) = omega (arith, whole, low) in
-    let same = ap (λ n. n % quantum) rest ∙ mod-mul-add (tick / quantum) quantum (tick % quantum + (t - tick))
-    (omega (arith, low, high)) in
-    omega (arith, same, low)
-
-no-multiple : (plan : Plan) (t : ℕ) → 0 < t % plan.quantum → at_quantum plan t ≡ false
-no-multiple plan t some =
-    ap (λ b. nat_lt 0 t && b) (ne_eqb (t % plan.quantum) 0 (λ none. let f : t % plan.quantum ≡ 0 = none in absurd (omega (arith, f, some))))
-    ∙ last (nat_lt 0 t)
-  where
-    last : (b : Bool) → (b && false) ≡ false
-    last true = refl
-    last false = refl
-
-module _ {M : Type 0} (k : MasterModel M) where
-  pub none-ahead : (plan : Plan) (m : M) (tick : ℕ) (marked : Bool) → tick ≤ plan.units
-      → AreAhead k plan m tick marked 0
-  none-ahead plan m tick marked most = record {
-    within = omega (arith, most);
-    due = λ runs some. absurd (omega (arith, some));
-    between = λ t low high. absurd (omega (arith, low, high));
-  }
-
-  pub some-ahead : (plan : Plan) (m : M) (tick : ℕ) (marked : Bool) (count : ℕ) → tick ≤ plan.units
-      → is_boundary_due k plan m tick marked ≡ false → count ≤ plan.units - tick
-      → count ≤ plan.quantum - tick % plan.quantum → AreAhead k plan m tick marked count
-  some-ahead plan m tick marked count most due units near = record {
-    within = omega (arith, most, units);
-    due = λ runs some. due;
-    between = λ t low high. no-multiple plan t (between plan.quantum tick t low (omega (arith, high, near)));
-  }
 
 -- The end behind so many units of its master.
 

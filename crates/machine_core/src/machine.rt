@@ -199,8 +199,8 @@ impl<M: Master> MachineCore<M> {
         }
     }
 
-    /// Takes the local units that come next, up to the next boundary or access, and then one turn as `act` does. `NoMemory`
-    /// leaves the end behind the units that were done.
+    /// Takes the local units that come next, up to the next boundary or access, and then one turn as `act` does.
+    /// `NoMemory` leaves the end behind the units that were done.
     pub fn advance(&mut self, out: &mut Octets) -> Result<Turn, NoMemory>
         requires calls { 1 ≤ self.old.room }
         requires room { 4176 ≤ out.old.spare }
@@ -372,7 +372,8 @@ impl<M: Master> MachineCore<M> {
         requires calls { 1 ≤ self.old.room }
         requires room { 4176 ≤ out.old.spare }
         ensures few { length out.new.bytes ≤ length out.old.bytes + 4176 }
-        ensures acts { ActsBy (gathers M.model self.old.end (first_true (map is_unknown self.old.end.ports))) self.old self.new out.old.bytes out.new.bytes result }
+        ensures acts { ActsBy (gathers M.model self.old.end (first_true (map is_unknown self.old.end.ports)))
+            self.old self.new out.old.bytes out.new.bytes result }
     {
         if let Some(port) = first_unknown(self.ports.as_slice()) {
             return Ok(Turn::NotYet { port: port as u32 });
@@ -390,7 +391,9 @@ impl<M: Master> MachineCore<M> {
         requires calls { 1 ≤ self.old.room }
         requires room { 4176 ≤ out.old.spare }
         ensures few { length out.new.bytes ≤ length out.old.bytes + 4176 }
-        ensures acts { ActsBy (at_port (slice_get self.old.end.ports port) (λ q. serves_held M.model self.old.end port q q.held)) self.old self.new out.old.bytes out.new.bytes result }
+        ensures acts { ActsBy
+            (at_port (slice_get self.old.end.ports port) (λ q. serves_held M.model self.old.end port q q.held))
+            self.old self.new out.old.bytes out.new.bytes result }
     {
         let at = port as usize;
         let answered = self.ports[at].serve(

@@ -1,5 +1,6 @@
 // A port of the machine end.
-ghost use Rattle.std.specs.Prelude.{◌≡◌, ◌+◌, ◌≤◌, ◌++◌, length, true, false, Some, None, IfOk, IfErr, OnOk, OnErr, is_some, nat_lt};
+ghost use Rattle.std.specs.Prelude.{◌≡◌, ◌+◌, ◌≤◌, ◌++◌, length, true, false, Some, None, is_some, nat_lt};
+ghost use Rattle.std.specs.Prelude.{IfOk, IfErr, OnOk, OnErr};
 ghost use Rattle.ends_model.specs.MachineTurn.{time_of as request_time};
 ghost use Rattle.rp_packet.specs.Values.{value_of};
 

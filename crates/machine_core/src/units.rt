@@ -20,8 +20,8 @@ pub fn units_ahead<M: Master>(master: &M, plan: Plan, tick: u64, marked: bool) -
     to_multiple.min(plan.units - tick)
 }
 
-/// Takes local units, at most so many as may be taken, which it counts down, until the master stops or issues an access,
-/// which it answers. After `NoMemory` the master stands behind the units that were counted.
+/// Takes local units, at most `left`, which it counts down, until the master stops or issues an access, which it
+/// answers. After `NoMemory` the master stands behind the units that were counted.
 pub fn take_units<M: Master>(master: &mut M, left: &mut u64) -> Result<Option<Bus>, NoMemory>
     requires free { M.model.issued master.old ≡ None }
     ensures { TakesUnits M.model left.old left.new master.old master.new result }

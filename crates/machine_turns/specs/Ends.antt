@@ -1,7 +1,7 @@
 -- What contracts see of a machine end with the bytes that it received: its core, the fault that it keeps, and by port
 -- the bytes that it did not take yet; and what a call of its turn does.
-use Rattle.std.specs.Prelude.{◌≡◌, ℕ, zero, suc, ◌+◌, ◌<◌, ◌≤◌, List, [], ◌++◌, length, drop, get_or, Option, Some, None}
-use Rattle.std.specs.Prelude.{option_map, Result, Ok, Err, set, slice_get, replicate, Bool, true, false}
+use Rattle.std.specs.Prelude.{◌≡◌, ℕ, ◌+◌, ◌<◌, ◌≤◌, List, [], ◌++◌, length, drop, get_or, Option, Some, None}
+use Rattle.std.specs.Prelude.{zero, suc, option_map, Result, Ok, Err, set, slice_get, replicate, Bool, true, false}
 use Rattle.process_network.specs.Network.{Streams}
 use Rattle.process_network.specs.PacketStar.{HubEnd, hub_turn_by, fresh_hub}
 use Rattle.cosim_model.specs.declared.session.EndFault.{EndFault}

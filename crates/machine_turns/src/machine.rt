@@ -203,8 +203,8 @@ impl<M: Master> MachineEnd<M> {
         }
     }
 
-    /// Takes the local units that come next, up to the next boundary or access, and then one turn, as `turn` does. After want of
-    /// memory it may have taken units, and no more.
+    /// Takes the local units that come next, up to the next boundary or access, and then one turn, as `turn` does.
+    /// Want of memory leaves the end behind the units that were taken.
     pub fn advance(&mut self, out: &mut Octets) -> Result<Turn, TurnFault>
         ensures advances { Advances M.model self.old self.new out.old.bytes out.new.bytes result }
         ensures kept { (f : PortFault) → self.old.kept ≡ Some f → result ≡ Err (turn_fault.Port f) }
