@@ -70,7 +70,8 @@ pub fn asm<F: Files>(
     ensures performs { (out : Seen (List ℕ)) (room : ℕ) → IsUntouched out →
         Performs (AsmComes file.now target.now (F.told files.old)) (seen F.count F.told files.old files.new) out (F.sound files.old) room result }
     // It asks for its text, and then for the file that it writes, each once.
-    ensures asks { AsksFor (λ m. file.now ∷ []) (λ m. target.now ∷ []) (asking F.told F.asked files.old files.new) result }
+    ensures asks { AsksFor (λ m. file.now ∷ []) (λ m. target.now ∷ [])
+        (asking F.told F.asked files.old files.new) result }
 {
     let text = read_file(files, file)?;
     let image = image_of_bytes(alloc, text.as_slice())?;

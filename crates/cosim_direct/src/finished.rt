@@ -34,7 +34,8 @@ fn ending_of_ports(
     direct: &Direct<AnyMaster, AnyDevice>,
 ) -> Result<Ending, NoMemory>
     requires { length ports.now ≤ 16 }
-    ensures { IfOk result (IsEnding direct.now.calls.calls direct.now.master direct.now.ticks (uarts_from 0 ports.now)) }
+    ensures { IfOk result (IsEnding direct.now.calls.calls direct.now.master direct.now.ticks
+        (uarts_from 0 ports.now)) }
 {
     let uarts = uarts_of(alloc, ports)?;
     ending_of(

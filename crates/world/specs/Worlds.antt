@@ -1,4 +1,5 @@
--- A world: where its ends are, what they began with, and what its calls promise. `every_schedule` is the theorem behind.
+-- A world: where its ends are, what they began with, and what its calls promise. `every_schedule` is the theorem
+-- behind.
 use Rattle.std.specs.Prelude.{◌≡◌, ℕ, ◌+◌, ◌≤◌, ◌⊎◌, Bool, true, if◌then◌else◌, List, [], ◌∷◌, ◌++◌, length, map}
 use Rattle.std.specs.Prelude.{Option, Some, None, OnOk, Result, slice_get}
 use Rattle.cos_base.specs.declared.no_memory.NoMemory.{NoMemory}
@@ -86,9 +87,9 @@ module _ {M S : Type 0} (k : MasterModel M) (d : DeviceModel S) where
       → all.IsOneAtMost k d packet_codec w.start.plan w.start.master w.start.ports
       (all.untaken k d packet_codec w.start.plan w.start.master w.start.ports w.now p)
 
-  -- What holds of a world whatever steps led there: the bytes sent are a beginning of the traffic of the direct machine,
-  -- and the calls of its calls; no end has a fault; some step changes something, or all is as the direct machine leaves
-  -- it; and no more steps changed something than there can.
+  -- What holds of a world whatever steps led there: the bytes sent are a beginning of the traffic of the direct
+  -- machine, and the calls of its calls; no end has a fault; some step changes something, or all is as the direct
+  -- machine leaves it; and no more steps changed something than there can.
   pub record IsOnItsWay (w : WorldValue M S) : Type 0 where
     pub out : (p : ℕ) (x : Side × S) → slice_get w.start.ports p ≡ Some x
         → IsPrefix (link w.now p).out

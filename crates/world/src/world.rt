@@ -13,8 +13,8 @@ use std::alloc::Global;
 use std::marker::Model;
 use std::snapshot::Snapshot;
 
-/// A machine end and device ends in memory, moved by any list of steps. Contracts see what they began with, where they are, and
-/// how many steps changed something.
+/// A machine end and device ends in memory, moved by any list of steps. Contracts see what they began with, where they
+/// are, and how many steps changed something.
 #[derive(Drop)]
 pub struct World<M: Master, D: Device> {
     ends: Ends<M, D>,
@@ -63,8 +63,8 @@ impl<M: Master, D: Device> World<M, D> {
 
     /// A world in which no step was taken.
     ///
-    /// Each device end is one that has taken no turn, and master and ends go together: at most 16 ends at tick 0, each of which
-    /// offers what its device needs, and a master that has issued nothing and names no other port.
+    /// Each device end is one that has taken no turn, and master and ends go together: at most 16 ends at tick 0, each
+    /// of which offers what its device needs, and a master that has issued nothing and names no other port.
     pub fn make(
         alloc: Global,
         master: M,
@@ -95,8 +95,8 @@ impl<M: Master, D: Device> World<M, D> {
         })
     }
 
-    /// Takes a step. Did it change anything? A delivery hands over what is in flight, at most so many bytes. `NoMemory` leaves all as
-    /// it was.
+    /// Takes a step. Did it change anything? A delivery hands over what is in flight, at most so many bytes. `NoMemory`
+    /// leaves all as it was.
     pub fn step(&mut self, step: Step) -> Result<bool, NoMemory>
         ensures ok { IfOk result (λ moved. IsStepped M.model D.model self.old self.new (star_step step) moved) }
         ensures err { OnErr result (self.new ≡ self.old) }
@@ -111,8 +111,8 @@ impl<M: Master, D: Device> World<M, D> {
         Ok(moved)
     }
 
-    /// Takes the steps of a schedule, up to the first at which the machine end is done. After `NoMemory` it stands after a beginning of
-    /// them.
+    /// Takes the steps of a schedule, up to the first at which the machine end is done. After `NoMemory` it stands
+    /// after a beginning of them.
     pub fn run(&mut self, schedule: &Schedule) -> Result<(), NoMemory>
         ensures runs { IsRun M.model D.model schedule.now self.old self.new }
         ensures done { OnOk result (self.new.now.hub.core.phase ≡ Phase.Done) }
@@ -185,8 +185,8 @@ impl<M: Master, D: Device> World<M, D> {
         self.ends.sent(port, way)
     }
 
-    /// What holds at any time, whatever steps were taken: `reached`, that some steps led from the start to where it is; and `way`, that
-    /// so far all is a beginning of what the direct machine does. It does nothing.
+    /// What holds at any time, whatever steps were taken: `reached`, that some steps led from the start to where it is;
+    /// and `way`, that so far all is a beginning of what the direct machine does. It does nothing.
     pub fn is_on_its_way(&self)
         ensures reached { IsReached M.model D.model self.now }
         ensures way { IsOnItsWay M.model D.model self.now }
