@@ -8,3 +8,4 @@ mod Reaching
 mod Taking
 mod Finishing
 mod OneRun
+mod Ready

@@ -1,6 +1,6 @@
 -- What holds of the ends of a world wherever some steps led.
 use Rattle.std.proofs.Common.{◌≡◌, ◌⊎◌, ℕ, zero, suc, ◌+◌, ◌<◌, ◌≤◌, Bool, true, false, List, [], ◌∷◌, ◌++◌, length, map, set, refl, sym, ap, ◌∙◌, subst, arith}
-use Rattle.std.specs.Prelude.{All, Option, Some, None, if◌then◌else◌, slice_get}
+use Rattle.std.specs.Prelude.{All, Option, Some, None, IsSome, if◌then◌else◌, slice_get}
 use Rattle.std.proofs.lemmas.List.{length-map, length-replicate}
 use Rattle.std.proofs.lemmas.Option.{none-some}
 use Rattle.process_network.specs.Network.{IsPrefix}
@@ -8,16 +8,21 @@ use Rattle.process_network.specs.PacketStar.{fresh_hub, fresh_leaf}
 use Rattle.process_network.specs.Star.{StarStep, hub_received, leaf_received, leaf_turn_of, link, star_after, star_all}
 use Rattle.process_network.specs.Star.{after_hub_turn, after_leaf_turn, star_effective, star_effective_steps, star_start}
 use Rattle.process_network.specs.Star.StarStep.{HubTurn, LeafTurn}
+use Rattle.process_network.specs.StarTalk.{IsHubRun}
 use Rattle.process_network.proofs.CalmRuns.{all_append}
+use Rattle.process_network.proofs.EndRuns.{star_hub_runs}
+use Rattle.process_network.proofs.PacketRuns.{ends_monotone}
 use Rattle.process_network.proofs.StarTheorem.{all_kept}
 use Rattle.cosim_model.specs.declared.values.Plan.{Plan}
 use Rattle.cosim_model.specs.Parts.{DeviceModel, IsDevice, IsMaster, MasterModel}
 use Rattle.ends_model.specs.declared.ends.Phase.TheVariants.{Done}
 use Rattle.ends_model.specs.DeviceTurn.{DeviceEnd}
-use Rattle.ends_model.specs.World.{Fit, Side, device_start, device_starts, machine_start}
+use Rattle.ends_model.specs.Answers.{machine_answer}
+use Rattle.ends_model.specs.World.{Fit, Side, device_start, device_starts, ends, machine_start}
 use Rattle.every_schedule.specs.Schedules as all
 use Rattle.every_schedule.proofs.Bounded.{bounded}
 use Rattle.every_schedule.proofs.Finished.{every_schedule}
+use Rattle.every_schedule.proofs.Found.{run_answers}
 use Rattle.every_schedule.proofs.Room.{has_room}
 use Rattle.rp_framing.specs.Framing.{counted}
 use Rattle.rp_packet.specs.CodecLaws.{codec-laws}
@@ -26,7 +31,7 @@ use Rattle.rp_packet.specs.Streams.{packet_codec}
 use Rattle.device_turns.specs.Ends.{End as DeviceTurns, core_of as device_core}
 use Rattle.machine_turns.specs.Ends.{End, core_of, fresh as fresh_machine}
 use Rattle.world.specs.Seats.{IsFresh}
-use Rattle.world.specs.Stars.{Ends, Hub, IsMoved, IsSound, Leaf, star, unsent}
+use Rattle.world.specs.Stars.{Ends, HasAnswer, Hub, IsMoved, IsSound, Leaf, star, unsent}
 use Rattle.world.specs.Worlds.{HasRoom, IsOnItsWay, IsOver, IsReached, IsStart, IsStepped, Start, WorldValue}
 use Rattle.world.specs.Worlds.{after_steps, begun, fresh_world, side_of}
 
@@ -196,6 +201,33 @@ module _ {M S : Type 0} (k : MasterModel M) (d : DeviceModel S) where
 
     pub reached-way : (w : WorldValue M S) → IsReached k d w → IsOnItsWay k d w
     reached-way w is = way-at w is.fit is.steps is.now is.effective
+
+    -- Every turn of the machine end has an answer.
+
+    abbrev Runs : Start M S → List StarStep → ℕ → ℕ → ℕ → Type 0
+    Runs s steps turns ports counts =
+        IsHubRun (star k d) ports (fresh_hub (machine_start Cause s.master (length s.ports) s.plan) counts)
+        (hub_received (after_steps k d s steps)) turns (after_steps k d s steps).hub
+        (λ p. (link (after_steps k d s steps) p).out)
+
+    hub-runs : (s : Start M S) (steps : List StarStep) → (turns : ℕ) × Runs s steps turns (length s.ports) (length s.ports)
+    hub-runs s steps =
+        let starts = device_starts k d packet_codec s.plan s.master s.ports in
+        let run = star_hub_runs (star k d) (ends_monotone (ends k d packet_codec) codec-laws.decided)
+        (fresh_hub (machine_start Cause s.master (length s.ports) s.plan) (length starts)) (map fresh_leaf starts) steps in
+        let same : length starts ≡ length s.ports = length-map s.ports (λ (x : Side × S). device_start Cause x.0 x.1) in (
+          run.0,
+          subst (λ n. Runs s steps run.0 n (length s.ports)) (length-map starts fresh_leaf ∙ same)
+              (subst (λ n. Runs s steps run.0 (length (map fresh_leaf starts)) n) same run.1),
+        )
+
+    pub reached-answer : (w : WorldValue M S) → IsReached k d w → HasAnswer k w.now.hub.core
+    reached-answer w is whole =
+        let run = hub-runs w.start is.steps in
+        let there = after_steps k d w.start is.steps in
+        subst (λ (v : Ends M S). IsSome (machine_answer k v.hub.core whole)) (sym is.now)
+        (run_answers k master_laws d packet_codec w.start.plan (length w.start.ports) w.start.master is.fit.reach
+        (hub_received there) run.0 there.hub (λ p. (link there p).out) run.1 whole)
 
   -- The start, as the ends are made.
 

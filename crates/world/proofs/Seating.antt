@@ -26,7 +26,7 @@ use Rattle.device_turns.specs.EndLaws.{answer, moves-turns, waits-rests}
 use Rattle.device_turns.specs.StepLaws.{step-is}
 use Rattle.world.specs.Seats.{IsSeat, IsSoundSeat, SeatGiven, SeatTurns, SeatValue, TurnsTo, leaf_of, out_given, seat_turn}
 
-abbrev shifted : {S : Type 0} → ℕ → Option (Taking S × List ℕ) → Option (Taking S × List ℕ)
+abbrev pub shifted : {S : Type 0} → ℕ → Option (Taking S × List ℕ) → Option (Taking S × List ℕ)
 shifted n None = None
 shifted n (Some r) = Some (record { core = r.0.core; taken = n + r.0.taken }, r.1)
 
@@ -53,7 +53,7 @@ not-memory (fault.LateWant a b) P Q not is = is
 not-memory (fault.Astray n) P Q not is = is
 
 module _ {S : Type 0} (d : DeviceModel S) where
-  abbrev turn_by : Taking S → List ℕ → Option (EndFault Cause) → Bool → Option (Taking S × List ℕ)
+  abbrev pub turn_by : Taking S → List ℕ → Option (EndFault Cause) → Bool → Option (Taking S × List ℕ)
   turn_by l x kept hello = leaf_turn_by (traffic.device_alone d packet_codec) l x (device_looks l.core kept hello)
 
   -- The turn over the bytes held is that over all the bytes delivered.
@@ -86,7 +86,7 @@ module _ {S : Type 0} (d : DeviceModel S) where
     abbrev new-seat : SeatValue S
     new-seat = seat new (record k { back = after }) later
 
-    turn-is : (o : Option (Taking S × List ℕ)) → turn_of d e ≡ o → seat_turn d old-seat ≡ shifted e.taken o
+    pub turn-is : (o : Option (Taking S × List ℕ)) → turn_of d e ≡ o → seat_turn d old-seat ≡ shifted e.taken o
     turn-is o at =
         turn-shifted (core_of e) e.taken (take k.out_delivered k.out) e.held (kept_cause e.kept) e.clear.session.hello_went is.holds
         ∙ ap (shifted e.taken) at

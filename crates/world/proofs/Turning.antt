@@ -156,7 +156,7 @@ module _ {M S : Type 0} (k : MasterModel M) (d : DeviceModel S) (e : End M) (sea
       (sym (zeros (length e.ports) p))
   turned-is HubHalts = refl
 
-  turn-is : (star k d).hub_turn now.hub (hub_received now) ≡ lifted taken (turn_of k e)
+  pub turn-is : (star k d).hub_turn now.hub (hub_received now) ≡ lifted taken (turn_of k e)
   turn-is = turned-is (machine_outlook k (core_of e))
 
   received-size : (p : ℕ) → length (hub_received now p) ≡ (link now p).back_delivered

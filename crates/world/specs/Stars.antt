@@ -1,11 +1,13 @@
 -- The ends of a world as a star: the machine end is the hub, and the device end of a port is a leaf.
-use Rattle.std.specs.Prelude.{◌≡◌, ℕ, ◌<◌, ◌≤◌, Bool, true, false, List, [], ◌++◌, length, take, drop, map, get_or, set, slice_get, Option, Some, None}
+use Rattle.std.specs.Prelude.{◌≡◌, ℕ, ◌<◌, ◌≤◌, Bool, true, false, List, [], ◌++◌, length, take, drop, map, get_or, set, slice_get, Option, Some, None, IsSome}
 use Rattle.process_network.specs.PacketStar.{HubEnd, LeafEnd, fresh_hub, fresh_leaf, star_of}
 use Rattle.process_network.specs.Star.{Link, Star, StarStep, StarWorld, hub_received, leaf_received, leaf_turn_of}
 use Rattle.process_network.specs.Star.{new_link, star_after, star_effective, star_start}
 use Rattle.cosim_model.specs.Parts.{DeviceModel, MasterModel}
 use Rattle.ends_model.specs.declared.ends.Turn.{Turn}
 use Rattle.ends_model.specs.declared.ends.Turn.TheVariants as turn
+use Rattle.cosim_model.specs.Packets.{Decoded}
+use Rattle.ends_model.specs.Answers.{machine_answer}
 use Rattle.ends_model.specs.DeviceTurn.{DeviceEnd}
 use Rattle.ends_model.specs.MachineTurn.{MachineEnd}
 use Rattle.ends_model.specs.World.{ends}
@@ -70,6 +72,10 @@ module _ {M S : Type 0} (k : MasterModel M) (d : DeviceModel S) where
   pub record IsMoved (old new : Ends M S) (step : StarStep) (moved : Bool) : Type 0 where
     pub new_is : new ≡ star_after star old step
     pub moved_is : moved ≡ star_effective star old step
+
+-- The next turn has an answer, whatever packets come next: the machine end is one to which runs come.
+abbrev pub HasAnswer : {M : Type 0} → MasterModel M → MachineEnd M Cause → Type 0
+HasAnswer k h = (whole : ℕ → Option (Decoded Cause)) → IsSome (machine_answer k h whole)
 
 -- What a turn of the machine end appends to the links, by what it answers.
 abbrev pub sent_links : List Link → Turn → List ℕ → List Link

@@ -108,12 +108,12 @@ impl<M: Master, D: Device> Model for Ends<M, D> {
 }
 
 impl<M: Master, D: Device> Ends<M, D> {
-    ghost use Rattle.std.specs.Prelude.{◌<◌, OnErr, Some, slice_get};
-    ghost use Rattle.process_network.specs.Star.{link};
+    ghost use Rattle.std.specs.Prelude.{◌<◌, OnErr, Some, None, slice_get};
+    ghost use Rattle.process_network.specs.Star.{link, star_effective};
     ghost use Rattle.process_network.specs.Star.StarStep.{HubTurn, LeafTurn, DeliverOut, DeliverBack};
     ghost use Rattle.cos_schedules.specs.Stars.{star_step};
     ghost use Rattle.machine_turns.specs.Ends.{fresh as fresh_machine};
-    ghost use Rattle.world.specs.Stars.{IsMoved, IsSound, hub_of, sent_on, unsent};
+    ghost use Rattle.world.specs.Stars.{HasAnswer, IsMoved, IsSound, hub_of, sent_on, star, unsent};
 
     /// Ends of which none has taken a turn or received anything.
     pub fn make(
@@ -265,5 +265,73 @@ impl<M: Master, D: Device> Ends<M, D> {
         }
         seat.deliver(size);
         Ok(size > 0)
+    }
+
+    /// Whether a step would change anything. It takes no memory.
+    pub fn can_step(&self, step: Step) -> bool
+        requires { HasAnswer M.model self.now.hub.core }
+        ensures { result ≡ star_effective (star M.model D.model) self.now (star_step step) }
+    {
+        match step {
+            Step::Machine => self.can_turn_machine(),
+            Step::Device { port } => self.can_turn_device(port),
+            Step::Deliver {
+                port,
+                way: Way::Out,
+                count,
+            } => self.can_deliver_out(port, count),
+            Step::Deliver {
+                port,
+                way: Way::Back,
+                count,
+            } => self.can_deliver_back(port, count),
+        }
+    }
+
+    /// Whether the machine end's turn would.
+    fn can_turn_machine(&self) -> bool
+        requires { HasAnswer M.model self.now.hub.core }
+        ensures { result ≡ star_effective (star M.model D.model) self.now HubTurn }
+    {
+        if self.machine.is_done() {
+            return false;
+        }
+        self.machine.ready()
+    }
+
+    /// Whether the turn of the device end of a port would.
+    fn can_turn_device(&self, port: u32) -> bool
+        ensures { result ≡ star_effective (star M.model D.model) self.now (LeafTurn port) }
+    {
+        let at = port as usize;
+        if at >= self.seats.len() {
+            return false;
+        }
+        let seat = &self.seats[at];
+        seat.can_turn()
+    }
+
+    /// Whether a delivery to the device end of a port would.
+    fn can_deliver_out(&self, port: u32, count: u32) -> bool
+        ensures { result ≡ star_effective (star M.model D.model) self.now (DeliverOut port count) }
+    {
+        let at = port as usize;
+        if at >= self.seats.len() {
+            return false;
+        }
+        let seat = &self.seats[at];
+        seat.can_give(count as usize)
+    }
+
+    /// Whether a delivery of bytes of a port to the machine end would.
+    fn can_deliver_back(&self, port: u32, count: u32) -> bool
+        ensures { result ≡ star_effective (star M.model D.model) self.now (DeliverBack port count) }
+    {
+        let at = port as usize;
+        if at >= self.seats.len() {
+            return false;
+        }
+        let seat = &self.seats[at];
+        seat.can_deliver(count as usize)
     }
 }

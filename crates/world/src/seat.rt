@@ -42,9 +42,9 @@ impl<D: Device> Model for Seat<D> {
 }
 
 impl<D: Device> Seat<D> {
-    ghost use Rattle.std.specs.Prelude.{◌≡◌, ◌+◌, ◌≤◌, ◌++◌, length, take, drop, IfOk, OnOk, OnErr};
+    ghost use Rattle.std.specs.Prelude.{◌≡◌, ◌+◌, ◌≤◌, ◌++◌, length, take, drop, is_some, nat_lt, None, IfOk, OnOk, OnErr};
     ghost use Rattle.process_network.specs.Star.{new_link};
-    ghost use Rattle.world.specs.Seats.{IsFresh, IsSoundSeat, SeatGiven, SeatTurns};
+    ghost use Rattle.world.specs.Seats.{IsFresh, IsSoundSeat, SeatGiven, SeatTurns, back_given, out_given, seat_turn};
 
     /// A seat on whose port nothing was sent.
     pub fn make(alloc: Global, end: DeviceEnd<D>) -> Seat<D>
@@ -97,6 +97,13 @@ impl<D: Device> Seat<D> {
         }
     }
 
+    /// Whether a turn would move the end.
+    pub fn can_turn(&self) -> bool
+        ensures { result ≡ is_some (seat_turn D.model self.now) }
+    {
+        self.end.ready()
+    }
+
     /// Delivers bytes to the device end, at most so many. Were there any?
     pub fn give(&mut self, count: usize) -> Result<bool, NoMemory>
         ensures ok { IfOk result (λ took. SeatGiven self.old self.new count took) }
@@ -112,6 +119,20 @@ impl<D: Device> Seat<D> {
         }
         self.out_delivered = next;
         Ok(size > 0)
+    }
+
+    /// Whether bytes are on their way to the device end, and the count isn't 0.
+    pub fn can_give(&self, count: usize) -> bool
+        ensures { result ≡ nat_lt self.now.link.out_delivered (out_given self.now.link count).out_delivered }
+    {
+        count > 0 && self.out_delivered < self.out.len()
+    }
+
+    /// Whether bytes are on their way to the machine end, and the count isn't 0.
+    pub fn can_deliver(&self, count: usize) -> bool
+        ensures { result ≡ nat_lt self.now.link.back_delivered (back_given self.now.link count).back_delivered }
+    {
+        count > 0 && self.back_delivered < self.back.len()
     }
 
     /// The bytes on their way to the machine end, at most so many.

@@ -56,9 +56,9 @@ impl<M: Master, D: Device> World<M, D> {
     ghost use Rattle.ends_model.specs.declared.ends.Phase.TheVariants as Phase;
     ghost use Rattle.cos_schedules.specs.Stars.{star_step};
     ghost use Rattle.cos_schedules.specs.declared.schedule.Schedule.TheVariants.{Number};
-    ghost use Rattle.process_network.specs.Star.{link};
+    ghost use Rattle.process_network.specs.Star.{link, star_effective};
     ghost use Rattle.world.specs.Seats.{leaf_of};
-    ghost use Rattle.world.specs.Stars.{hub_of, sent_on};
+    ghost use Rattle.world.specs.Stars.{hub_of, sent_on, star};
     ghost use Rattle.world.specs.Worlds.{IsOnItsWay, IsOver, IsReached, IsRun, IsStepped, TakesOf, fresh_world};
 
     /// A world in which no step was taken.
@@ -109,6 +109,13 @@ impl<M: Master, D: Device> World<M, D> {
             self.effective = self.effective.saturating_add(1);
         }
         Ok(moved)
+    }
+
+    /// Whether a step would change anything. It takes no memory.
+    pub fn can_step(&self, step: Step) -> bool
+        ensures { result ≡ star_effective (star M.model D.model) self.now.now (star_step step) }
+    {
+        self.ends.can_step(step)
     }
 
     /// Takes the steps of a schedule, up to the first at which the machine end is done. After `NoMemory` it stands
