@@ -9,6 +9,7 @@ use cos_schedules::{Rounds, Schedule, Step, Way};
 use cosim_model::Plan;
 use device_turns::DeviceEnd;
 use machine_turns::MachineEnd;
+use packet_counts::count_packets;
 use std::alloc::Global;
 use std::marker::Model;
 use std::snapshot::Snapshot;
@@ -57,6 +58,8 @@ impl<M: Master, D: Device> World<M, D> {
     ghost use Rattle.cos_schedules.specs.Stars.{star_step};
     ghost use Rattle.cos_schedules.specs.declared.schedule.Schedule.TheVariants.{Number};
     ghost use Rattle.process_network.specs.Star.{link, star_effective};
+    ghost use Rattle.every_schedule.specs.Counts.{packets_in};
+    ghost use Rattle.rp_packet.specs.Streams.{packet_codec};
     ghost use Rattle.world.specs.Seats.{leaf_of};
     ghost use Rattle.world.specs.Stars.{hub_of, sent_on, star};
     ghost use Rattle.world.specs.Worlds.{IsOnItsWay, IsOver, IsReached, IsRun, IsStepped, TakesOf, fresh_world};
@@ -190,6 +193,14 @@ impl<M: Master, D: Device> World<M, D> {
         ensures { result.now ≡ sent_on way (link self.now.now port) }
     {
         self.ends.sent(port, way)
+    }
+
+    /// How many packets were sent on a port. It reads all its bytes, and takes no memory.
+    pub fn packets(&self, port: u32, way: Way) -> u64
+        requires { port < length self.now.start.ports }
+        ensures { result ≡ packets_in packet_codec (sent_on way (link self.now.now port)) }
+    {
+        count_packets(self.sent(port, way))
     }
 
     /// What holds at any time, whatever steps were taken: `reached`, that some steps led from the start to where it is;
