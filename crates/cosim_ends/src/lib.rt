@@ -6,3 +6,6 @@ mod fitting;
 
 pub use ends::make_ends;
 pub use fitting::parts_fit;
+
+#[cfg(test)]
+mod tests;
