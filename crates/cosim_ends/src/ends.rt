@@ -9,8 +9,8 @@ use cos_parts::AnyDevice;
 use device_turns::DeviceEnd;
 use std::alloc::Global;
 
-/// Makes the end of each port's device, as the settings of the port say: what its hello offers, and whether a line is sent so that
-/// it is answered. The devices are by port, and at reset.
+/// Makes the end of each port's device, as the settings of the port say: what its hello offers, and whether a line is
+/// sent so that it is answered. The devices are by port, and at reset.
 pub fn make_ends(
     alloc: Global,
     devices: Vec<AnyDevice>,

@@ -11,8 +11,8 @@ ghost use Rattle.cosim_ends.specs.Sides.{sides_of};
 use cos_config::Config;
 use cosim_inputs::Machine;
 
-/// The master and the devices of a configuration that breaks no rule go together, whatever the files tell: what is asked for is what
-/// reading the configuration and the machine promises. It does nothing.
+/// The master and the devices of a configuration that breaks no rule go together, whatever the files tell: what is
+/// asked for is what reading the configuration and the machine promises. It does nothing.
 pub fn parts_fit(config: &Config, machine: &Machine)
     requires limits { IsWithinLimits config.now }
     requires kinds { device_kinds machine.now.devices.items ≡ port_kinds config.now.ports }
