@@ -9,6 +9,7 @@ mod mem_sink;
 mod peers;
 mod said;
 
+pub use calls::Calls;
 pub use mem_files::MemFiles;
 pub use mem_link::MemLink;
 pub use mem_net::MemNet;

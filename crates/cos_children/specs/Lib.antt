@@ -1,0 +1,4 @@
+pub mod Children
+pub mod MemChildLists
+pub mod MemChildren
+pub mod SpawnerCalls
