@@ -81,7 +81,8 @@ fn room_of(links: usize) -> Option<usize>
     LINK_ROOM.checked_mul(links)?.checked_add(STEPS_ROOM)
 }
 
-/// Appends a line for each link, by port from 0, and one for the effective steps of the run. `NoMemory` leaves `text` as it was.
+/// Appends a line for each link, by port from 0, and one for the effective steps of the run. `NoMemory` leaves `text` as
+/// it was.
 pub fn put_links(links: &[LinkCounts], steps: u64, text: &mut Octets) -> Result<(), NoMemory>
     ensures ok { OnOk result (text.new.bytes ≡ text.old.bytes ++ traffic_text links.now steps) }
     ensures err { OnErr result (text.new ≡ text.old) }

@@ -28,7 +28,8 @@ fn front_size(bytes: &[u8]) -> Option<usize>
     }
 }
 
-/// The number of packets that bytes begin with, one behind the other. Bytes of an unfinished packet at the end are none.
+/// The number of packets that bytes begin with, one behind the other. Bytes of an unfinished packet at the end are
+/// none.
 ///
 /// A malformed packet counts as one, and counting goes on behind it. It takes no memory.
 pub fn count_packets(bytes: &[u8]) -> u64
