@@ -1,6 +1,6 @@
 -- The forms are the commands.
 use Rattle.std.proofs.Common.{ℕ, ◌≡◌, ◌+◌, List, [], ◌∷◌, ◌++◌, take, codes, refl, ap, sym, ◌∙◌, subst, inl, inr}
-use Rattle.cosim_words.specs.Words.{Command, DeviceNull, DeviceTimer, DevicePort, Show, Pack, Asm, Dis, Direct, Local, Gen, Help, Rounds, Schedule, Steps, words_of, IsInRange, IsCommand, IsFaulty}
+use Rattle.cosim_words.specs.Words.{Command, DeviceNull, DeviceTimer, DevicePort, Show, Pack, Asm, Dis, Direct, Local, Gen, Help, Default, Schedule, Steps, words_of, IsInRange, IsCommand, IsFaulty}
 use Rattle.cosim_words.specs.Forms.{Word, Exact, Other, Any, Number, IsWord, Fits, FitsSome, BeginsSome, FaultyIn, forms}
 
 -- words of a form that begins with a word of its own, by how many stand behind it
@@ -78,7 +78,7 @@ forms-commands ws (inr (inr (inr (inr (inl fits))))) = let by = fits-two (codes 
 forms-commands ws (inr (inr (inr (inr (inr (inl fits)))))) = let by = fits-three (codes "asm") Any Any ws fits in (Asm by.0 by.1, by.2, by.4)
 forms-commands ws (inr (inr (inr (inr (inr (inr (inl fits))))))) = let by = fits-two (codes "dis") Any ws fits in (Dis by.0, by.1, by.2)
 forms-commands ws (inr (inr (inr (inr (inr (inr (inr (inl fits)))))))) = let by = fits-two (codes "direct") Any ws fits in (Direct by.0, by.1, by.2)
-forms-commands ws (inr (inr (inr (inr (inr (inr (inr (inr (inl fits))))))))) = let by = fits-two (codes "local") Any ws fits in (Local by.0 Rounds, by.1, by.2)
+forms-commands ws (inr (inr (inr (inr (inr (inr (inr (inr (inl fits))))))))) = let by = fits-two (codes "local") Any ws fits in (Local by.0 Default, by.1, by.2)
 forms-commands ws (inr (inr (inr (inr (inr (inr (inr (inr (inr (inl fits)))))))))) = schedule-command ws fits
 forms-commands ws (inr (inr (inr (inr (inr (inr (inr (inr (inr (inr (inl fits))))))))))) = steps-command ws fits
 forms-commands ws (inr (inr (inr (inr (inr (inr (inr (inr (inr (inr (inr (inl fits)))))))))))) = gen-command ws fits
@@ -94,7 +94,7 @@ command-fits (Pack file) range = inr (inr (inr (inr (inl (refl, (tt, tt))))))
 command-fits (Asm file out) range = inr (inr (inr (inr (inr (inl (refl, (tt, (tt, tt))))))))
 command-fits (Dis file) range = inr (inr (inr (inr (inr (inr (inl (refl, (tt, tt))))))))
 command-fits (Direct config) range = inr (inr (inr (inr (inr (inr (inr (inl (refl, (tt, tt)))))))))
-command-fits (Local config Rounds) range = inr (inr (inr (inr (inr (inr (inr (inr (inl (refl, (tt, tt))))))))))
+command-fits (Local config Default) range = inr (inr (inr (inr (inr (inr (inr (inr (inl (refl, (tt, tt))))))))))
 command-fits (Local config (Schedule number)) range = inr (inr (inr (inr (inr (inr (inr (inr (inr (inl (refl, (tt, (refl, ((number, range, refl), tt)))))))))))))
 command-fits (Local config (Steps file)) range = inr (inr (inr (inr (inr (inr (inr (inr (inr (inr (inl (refl, (tt, (refl, (tt, tt))))))))))))))
 command-fits (Gen number) range = inr (inr (inr (inr (inr (inr (inr (inr (inr (inr (inr (inl (refl, ((number, range, refl), tt)))))))))))))

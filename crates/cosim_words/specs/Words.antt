@@ -5,9 +5,9 @@ use Rattle.cosim_words.specs.declared.words.Command.TheVariants as read
 use Rattle.cosim_words.specs.declared.words.Order.{Order as ReadOrder}
 use Rattle.cosim_words.specs.declared.words.Order.TheVariants as read_order
 
--- The order of the steps of a local run: rounds, a schedule by its number, or the list of steps of a file.
+-- The order of the steps of a local run: none is named, a schedule by its number, or the list of steps of a file.
 pub data Order : Type 0 where
-  Rounds : Order
+  Default : Order
   Schedule : ℕ → Order
   Steps : List ℕ → Order
 
@@ -28,7 +28,7 @@ pub data Command : Type 0 where
 -- a number stands in decimal digits, without leading zeros
 
 abbrev pub order_words : Order → List (List ℕ)
-order_words Rounds = []
+order_words Default = []
 order_words (Schedule number) = codes "schedule" ∷ decimal number ∷ []
 order_words (Steps file) = codes "steps" ∷ file ∷ []
 
@@ -48,7 +48,7 @@ words_of Help = codes "help" ∷ []
 -- A line is one of 32, a port and a number have 32 bits, and no configuration is named as the timer is.
 
 abbrev pub IsOrder : Order → Type 0
-IsOrder Rounds = Unit {0}
+IsOrder Default = Unit {0}
 IsOrder (Schedule number) = number ≤ 4294967295
 IsOrder (Steps file) = Unit {0}
 
@@ -68,7 +68,7 @@ IsInRange Help = Unit {0}
 -- the command that was read
 
 abbrev pub asked_order : ReadOrder → Order
-asked_order read_order.Rounds = Rounds
+asked_order read_order.Default = Default
 asked_order (read_order.Schedule number) = Schedule number
 asked_order (read_order.Steps file) = Steps file.now
 

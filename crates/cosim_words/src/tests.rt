@@ -59,7 +59,7 @@ fn words_are_read_as_commands(rt: HostRuntime) -> Result<(), Fail> {
 fn a_local_run_has_an_order(rt: HostRuntime) -> Result<(), Fail> {
     let alloc = rt.alloc();
     let rows: [(&[&str], Order<'_>); 6] = [
-        (&["local", "schedule"], Order::Rounds),
+        (&["local", "schedule"], Order::Default),
         (&["local", "schedule", "schedule", "0"], Order::Schedule(0)),
         (
             &["local", "schedule", "schedule", "4294967295"],

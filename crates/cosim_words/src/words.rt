@@ -9,11 +9,11 @@ use cos_text::read_decimal;
 /// The order in which the ends of a local run take turns, and bytes are delivered.
 #[derive(Clone, Copy, Debug, PartialEq, Eq)]
 pub enum Order<'a> {
-    /// Rounds: every turn and every delivery, by port.
-    Rounds,
+    /// None is named: that of schedule 0.
+    Default,
     /// The schedule of a number.
     Schedule(u32),
-    /// The steps that a file lists.
+    /// The steps that a file lists, and behind them those of schedule 0.
     Steps(&'a str),
 }
 
@@ -217,7 +217,7 @@ fn order_of(words: &[String]) -> Result<Order<'_>, u64>
 {
     let (kind, after) = match cut(words) {
         Some(parts) => parts,
-        None => return Ok(Order::Rounds),
+        None => return Ok(Order::Default),
     };
     if is_word(kind, "schedule") {
         return match number_word(after, u32::MAX) {

@@ -6,7 +6,7 @@ use Rattle.std.specs.Str.{bytes_eq}
 use Rattle.std.specs.Str.Parse.{digits_value}
 use Rattle.std.specs.declared.option.Option.{Option}
 use Rattle.std.specs.declared.option.Option.TheVariants.{Some, None}
-use Rattle.cosim_words.specs.Words.{Command, DeviceNull, DeviceTimer, DevicePort, Show, Pack, Asm, Dis, Direct, Local, Gen, Help, Order, Rounds, Schedule, Steps, IsInRange, words_of}
+use Rattle.cosim_words.specs.Words.{Command, DeviceNull, DeviceTimer, DevicePort, Show, Pack, Asm, Dis, Direct, Local, Gen, Help, Order, Default, Schedule, Steps, IsInRange, words_of}
 use Rattle.cosim_words.proofs.laws.one_command.Goals as goal
 
 -- the word at a place, or none
@@ -25,7 +25,7 @@ of_device words = Help
 
 -- the order of a local run, with the words behind its configuration
 abbrev of_order : List (List ℕ) → Order
-of_order [] = Rounds
+of_order [] = Default
 of_order (kind ∷ rest) =
     cond (bytes_eq kind (codes "schedule")) (Schedule (digits_value 10 (word_at 0 rest))) (Steps (word_at 0 rest))
 
@@ -69,7 +69,7 @@ back (Pack file) range = refl
 back (Asm file out) range = refl
 back (Dis file) range = refl
 back (Direct config) range = refl
-back (Local config Rounds) range = refl
+back (Local config Default) range = refl
 back (Local config (Schedule number)) range = ap (λ n. Some (Local config (Schedule n))) (value-back number range)
 back (Local config (Steps file)) range = refl
 back (Gen number) range = ap (λ n. Some (Gen n)) (value-back number range)
