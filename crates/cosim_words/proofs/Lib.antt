@@ -1,3 +1,4 @@
 pub mod Devices
 pub mod Faulty
+pub mod Orders
 pub mod Reading

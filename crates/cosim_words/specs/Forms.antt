@@ -47,6 +47,17 @@ kinds =
 abbrev pub devices : List (List Word)
 devices = map (λ kind. Any ∷ kind) kinds
 
+-- what may stand behind the configuration of a local run, and with the configuration
+abbrev pub orders : List (List Word)
+orders =
+    []
+    ∷ (Exact (codes "schedule") ∷ Number 4294967295 ∷ [])
+    ∷ (Exact (codes "steps") ∷ Any ∷ [])
+    ∷ []
+
+abbrev pub locals : List (List Word)
+locals = map (λ order. Any ∷ order) orders
+
 abbrev pub forms : List (List Word)
 forms =
     (Exact (codes "device") ∷ Any ∷ Exact (codes "null") ∷ [])
@@ -57,5 +68,9 @@ forms =
     ∷ (Exact (codes "asm") ∷ Any ∷ Any ∷ [])
     ∷ (Exact (codes "dis") ∷ Any ∷ [])
     ∷ (Exact (codes "direct") ∷ Any ∷ [])
+    ∷ (Exact (codes "local") ∷ Any ∷ [])
+    ∷ (Exact (codes "local") ∷ Any ∷ Exact (codes "schedule") ∷ Number 4294967295 ∷ [])
+    ∷ (Exact (codes "local") ∷ Any ∷ Exact (codes "steps") ∷ Any ∷ [])
+    ∷ (Exact (codes "gen") ∷ Number 4294967295 ∷ [])
     ∷ (Exact (codes "help") ∷ [])
     ∷ []

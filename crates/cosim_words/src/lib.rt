@@ -5,7 +5,7 @@ mod laws;
 mod words;
 
 pub use laws::one_command;
-pub use words::{Command, command_of, stop_of};
+pub use words::{Command, Order, command_of, stop_of};
 
 #[cfg(test)]
 mod tests;

@@ -1,4 +1,4 @@
-use crate::{Command, command_of};
+use crate::{Command, Order, command_of};
 use std::alloc::{AllocError, Global};
 use std::test::Fail;
 
@@ -50,13 +50,36 @@ fn words_are_read_as_commands(rt: HostRuntime) -> Result<(), Fail> {
     assert!(rt; reads(alloc, &["dis", "f"], Ok(Command::Dis { file }))?);
     assert!(rt; reads(alloc, &["direct", "c"], Ok(Command::Direct { config }))?);
     assert!(rt; reads(alloc, &["help"], Ok(Command::Help))?);
+    let number = u32::MAX;
+    assert!(rt; reads(alloc, &["gen", "4294967295"], Ok(Command::Gen { number }))?);
+    Ok(())
+}
+
+#[test]
+fn a_local_run_has_an_order(rt: HostRuntime) -> Result<(), Fail> {
+    let alloc = rt.alloc();
+    let rows: [(&[&str], Order<'_>); 6] = [
+        (&["local", "schedule"], Order::Default),
+        (&["local", "schedule", "schedule", "0"], Order::Schedule(0)),
+        (
+            &["local", "schedule", "schedule", "4294967295"],
+            Order::Schedule(u32::MAX),
+        ),
+        (&["local", "schedule", "steps", "f"], Order::Steps("f")),
+        (&["local", "schedule", "steps", ""], Order::Steps("")),
+        (&["local", "schedule", "steps", "7"], Order::Steps("7")),
+    ];
+    for (texts, order) in rows {
+        let config = "schedule";
+        assert!(rt; reads(alloc, texts, Ok(Command::Local { config, order }))?);
+    }
     Ok(())
 }
 
 #[test]
 fn other_words_stop_being_one(rt: HostRuntime) -> Result<(), Fail> {
     let alloc = rt.alloc();
-    let rows: [(&[&str], u64); 12] = [
+    let rows: [(&[&str], u64); 20] = [
         (&[], 0),
         (&["devices", "s", "null"], 0),
         (&["device", "s"], 2),
@@ -69,6 +92,14 @@ fn other_words_stop_being_one(rt: HostRuntime) -> Result<(), Fail> {
         (&["device", "s", "foo", "+7"], 3),
         (&["device", "s", "foo", "7", "x"], 4),
         (&["help", "x"], 1),
+        (&["local"], 1),
+        (&["local", "c", "schedules"], 2),
+        (&["local", "c", "schedule"], 3),
+        (&["local", "c", "schedule", "4294967296"], 3),
+        (&["local", "c", "steps"], 3),
+        (&["local", "c", "steps", "f", "x"], 4),
+        (&["gen"], 1),
+        (&["gen", "01"], 1),
     ];
     for (texts, index) in rows {
         assert!(rt; reads(alloc, texts, Err(index))?, "at {index}");

@@ -1,9 +1,21 @@
 // Reading the words of a command.
 ghost use Rattle.std.specs.Prelude.{◌≡◌, ◌+◌, ◌≤◌, ◌⊎◌, ◌∷◌, length, take, [], OnOk, IfOk, IfErr, map, string_bytes, codes, decimal, IsTrue, MatchOption, false};
-ghost use Rattle.cosim_words.specs.Words.{words_of, asked, IsInRange, IsFaulty, Begins};
-ghost use Rattle.cosim_words.specs.Forms.{Any, Number, FaultyIn, kinds, devices};
+ghost use Rattle.cosim_words.specs.Words.{words_of, order_words, asked, asked_order};
+ghost use Rattle.cosim_words.specs.Words.{IsInRange, IsOrder, IsFaulty, Begins};
+ghost use Rattle.cosim_words.specs.Forms.{Any, Number, FaultyIn, kinds, devices, orders, locals};
 
 use cos_text::read_decimal;
+
+/// The order in which the ends of a local run take turns, and bytes are delivered.
+#[derive(Clone, Copy, Debug, PartialEq, Eq)]
+pub enum Order<'a> {
+    /// None is named: that of schedule 0.
+    Default,
+    /// The schedule of a number.
+    Schedule(u32),
+    /// The steps that a file lists, and behind them those of schedule 0.
+    Steps(&'a str),
+}
 
 /// A command, with its words.
 #[derive(Clone, Copy, Debug, PartialEq, Eq)]
@@ -43,6 +55,15 @@ pub enum Command<'a> {
     /// Run the machine of a configuration without packets.
     Direct {
         config: &'a str,
+    },
+    /// Run the machine of a configuration as ends that exchange packets, in one process.
+    Local {
+        config: &'a str,
+        order: Order<'a>,
+    },
+    /// Run the generated machine of a number.
+    Gen {
+        number: u32,
     },
     /// Print the help text.
     Help,
@@ -187,6 +208,49 @@ fn device_words(words: &[String]) -> Result<Command<'_>, u64>
     }
 }
 
+/// The order of a local run, of the words behind its configuration.
+fn order_of(words: &[String]) -> Result<Order<'_>, u64>
+    ensures ok { IfOk result (λ o. IsOrder (asked_order o) ×
+        (map string_bytes words.now ≡ order_words (asked_order o))) }
+    ensures err { IfErr result (λ i. FaultyIn orders (map string_bytes words.now) i) }
+    ensures few { IfErr result (λ i. i ≤ 2) }
+{
+    let (kind, after) = match cut(words) {
+        Some(parts) => parts,
+        None => return Ok(Order::Default),
+    };
+    if is_word(kind, "schedule") {
+        return match number_word(after, u32::MAX) {
+            Ok(number) => Ok(Order::Schedule(number)),
+            Err(index) => Err(index + 1),
+        };
+    }
+    if is_word(kind, "steps") {
+        return match one_word(after) {
+            Ok(file) => Ok(Order::Steps(file)),
+            Err(index) => Err(index + 1),
+        };
+    }
+    Err(0)
+}
+
+/// The local run of the words behind `local`.
+fn local_words(words: &[String]) -> Result<Command<'_>, u64>
+    ensures ok { IfOk result (λ c. IsInRange (asked c) ×
+        (codes "local" ∷ map string_bytes words.now ≡ words_of (asked c))) }
+    ensures err { IfErr result (λ i. FaultyIn locals (map string_bytes words.now) i) }
+    ensures few { IfErr result (λ i. i ≤ 3) }
+{
+    let (config, after) = match cut(words) {
+        Some(parts) => parts,
+        None => return Err(0),
+    };
+    match order_of(after) {
+        Ok(order) => Ok(Command::Local { config, order }),
+        Err(index) => Err(index + 1),
+    }
+}
+
 /// The command of these words, or the index of the first faulty word, which is their number where words are missing.
 pub fn command_of(words: &[String]) -> Result<Command<'_>, u64>
     ensures ok { IfOk result (λ c. IsInRange (asked c) × (map string_bytes words.now ≡ words_of (asked c))) }
@@ -229,6 +293,18 @@ pub fn command_of(words: &[String]) -> Result<Command<'_>, u64>
     if is_word(verb, "direct") {
         return match one_word(after) {
             Ok(config) => Ok(Command::Direct { config }),
+            Err(index) => Err(index + 1),
+        };
+    }
+    if is_word(verb, "local") {
+        return match local_words(after) {
+            Ok(command) => Ok(command),
+            Err(index) => Err(index + 1),
+        };
+    }
+    if is_word(verb, "gen") {
+        return match number_word(after, u32::MAX) {
+            Ok(number) => Ok(Command::Gen { number }),
             Err(index) => Err(index + 1),
         };
     }

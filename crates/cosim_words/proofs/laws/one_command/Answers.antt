@@ -6,7 +6,7 @@ use Rattle.std.specs.Str.{bytes_eq}
 use Rattle.std.specs.Str.Parse.{digits_value}
 use Rattle.std.specs.declared.option.Option.{Option}
 use Rattle.std.specs.declared.option.Option.TheVariants.{Some, None}
-use Rattle.cosim_words.specs.Words.{Command, DeviceNull, DeviceTimer, DevicePort, Show, Pack, Asm, Dis, Direct, Help, IsInRange, words_of}
+use Rattle.cosim_words.specs.Words.{Command, DeviceNull, DeviceTimer, DevicePort, Show, Pack, Asm, Dis, Direct, Local, Gen, Help, Order, Default, Schedule, Steps, IsInRange, words_of}
 use Rattle.cosim_words.proofs.laws.one_command.Goals as goal
 
 -- the word at a place, or none
@@ -23,6 +23,16 @@ abbrev of_device : List (List ℕ) → Command
 of_device (socket ∷ kind ∷ rest) = of_kind socket kind rest
 of_device words = Help
 
+-- the order of a local run, with the words behind its configuration
+abbrev of_order : List (List ℕ) → Order
+of_order [] = Default
+of_order (kind ∷ rest) =
+    cond (bytes_eq kind (codes "schedule")) (Schedule (digits_value 10 (word_at 0 rest))) (Steps (word_at 0 rest))
+
+abbrev of_local : List (List ℕ) → Command
+of_local [] = Help
+of_local (config ∷ rest) = Local config (of_order rest)
+
 -- the command of a verb, with the words behind it
 abbrev of_verb : List ℕ → List (List ℕ) → Option Command
 of_verb verb words =
@@ -32,7 +42,9 @@ of_verb verb words =
     cond (bytes_eq verb (codes "asm")) (Some (Asm (word_at 0 words) (word_at 1 words))) (
     cond (bytes_eq verb (codes "dis")) (Some (Dis (word_at 0 words))) (
     cond (bytes_eq verb (codes "direct")) (Some (Direct (word_at 0 words))) (
-    cond (bytes_eq verb (codes "help")) (Some Help) None))))))
+    cond (bytes_eq verb (codes "local")) (Some (of_local words)) (
+    cond (bytes_eq verb (codes "gen")) (Some (Gen (digits_value 10 (word_at 0 words)))) (
+    cond (bytes_eq verb (codes "help")) (Some Help) None))))))))
 
 abbrev of_words : List (List ℕ) → Option Command
 of_words [] = None
@@ -57,6 +69,10 @@ back (Pack file) range = refl
 back (Asm file out) range = refl
 back (Dis file) range = refl
 back (Direct config) range = refl
+back (Local config Default) range = refl
+back (Local config (Schedule number)) range = ap (λ n. Some (Local config (Schedule n))) (value-back number range)
+back (Local config (Steps file)) range = refl
+back (Gen number) range = ap (λ n. Some (Gen n)) (value-back number range)
 back Help range = refl
 
 pub returns : goal.returns

@@ -1,5 +1,5 @@
 use Rattle.std.proofs.Common.{[], ◌∷◌, codes, refl}
-use Rattle.cosim_words.specs.Forms.{Any, devices, forms}
+use Rattle.cosim_words.specs.Forms.{Any, Number, devices, locals, forms}
 use Rattle.cosim_words.proofs.Reading.{faulty-end, faulty-here, faulty-verb, behind-others}
 use Rattle.cosim_words.proofs.Faulty.{faulty-of, begins-forms}
 use Rattle.cosim_words.proofs.words.command_of.Goals as goal
@@ -36,14 +36,25 @@ pub returns-in-Err-one_word-4-clause-err : goal.returns-in-Err-one_word-4-clause
 returns-in-Err-one_word-4-clause-err c =
     faulty-of _ _ (faulty-verb forms ((Any ∷ []) ∷ []) (codes "direct") _ _ _ _ c.in-Some.ensures (c.is_word-6.ensures.yes c.if-is_word-6.true) refl refl c.in-Err-one_word-4.ensures.err)
 
+-- local
+pub returns-in-Err-local_words-clause-err : goal.returns-in-Err-local_words-clause-err
+returns-in-Err-local_words-clause-err c =
+    faulty-of _ _ (faulty-verb forms locals (codes "local") _ _ _ _ c.in-Some.ensures (c.is_word-7.ensures.yes c.if-is_word-7.true) refl refl c.in-Err-local_words.ensures.err)
+
+-- gen
+pub returns-in-Err-number_word-clause-err : goal.returns-in-Err-number_word-clause-err
+returns-in-Err-number_word-clause-err c =
+    faulty-of _ _ (faulty-verb forms ((Number 4294967295 ∷ []) ∷ []) (codes "gen") _ _ _ _ c.in-Some.ensures (c.is_word-8.ensures.yes c.if-is_word-8.true) refl refl c.in-Err-number_word.ensures.err)
+
 -- help
 pub returns-in-Err-no_word-clause-err : goal.returns-in-Err-no_word-clause-err
 returns-in-Err-no_word-clause-err c =
-    faulty-of _ _ (faulty-verb forms ([] ∷ []) (codes "help") _ _ _ _ c.in-Some.ensures (c.is_word-7.ensures.yes c.if-is_word-7.true) refl refl c.in-Err-no_word.ensures.err)
+    faulty-of _ _ (faulty-verb forms ([] ∷ []) (codes "help") _ _ _ _ c.in-Some.ensures (c.is_word-9.ensures.yes c.if-is_word-9.true) refl refl c.in-Err-no_word.ensures.err)
 
 pub returns-clause-err : goal.returns-clause-err
 returns-clause-err c =
     let device = c.is_word.ensures.no c.if-is_word.false in
+    let run = c.is_word-7.ensures.no c.if-is_word-7.false in
     faulty-of _ _ (faulty-here forms _ _ _ c.in-Some.ensures
     (behind-others _ forms (
       device,
@@ -59,7 +70,22 @@ returns-clause-err c =
                 c.is_word-4.ensures.no c.if-is_word-4.false,
                 (
                   c.is_word-5.ensures.no c.if-is_word-5.false,
-                  (c.is_word-6.ensures.no c.if-is_word-6.false, (c.is_word-7.ensures.no c.if-is_word-7.false, tt)),
+                  (
+                    c.is_word-6.ensures.no c.if-is_word-6.false,
+                    (
+                      run,
+                      (
+                        run,
+                        (
+                          run,
+                          (
+                            c.is_word-8.ensures.no c.if-is_word-8.false,
+                            (c.is_word-9.ensures.no c.if-is_word-9.false, tt),
+                          ),
+                        ),
+                      ),
+                    ),
+                  ),
                 ),
               ),
             ),
