@@ -12,7 +12,7 @@ use Rattle.cos_config.specs.declared.config.Sockets.{Sockets}
 use Rattle.cos_config.specs.declared.config.Sockets.TheVariants.{Unneeded, All, Port}
 use Rattle.cos_config.specs.declared.fault.TableName.{TableName}
 use Rattle.cos_config.specs.declared.fault.TableName.TheVariants.{Machine, Port as PortTable}
-use Rattle.cos_config.specs.declared.fault.ConfigFault.TheVariants.{Missing, TooMany}
+use Rattle.cos_config.specs.declared.fault.ConfigFault.TheVariants.{TooMany}
 use Rattle.cos_config.specs.First.{Found, or_else, first_of}
 use Rattle.cos_config.specs.Keys.{A_word, A_number, A_text, Key, is_within, number_in, number_found, value_found, at_found, key_found, name_of, unknown_found, keys_found, table_found}
 use Rattle.cos_config.specs.Tables.{as_text, text_at, machine_kind_of, port_kind_of, machine_kind_at, port_kind_at, required_key, optional_key, machine_keys, port_keys}
@@ -233,11 +233,14 @@ kept-within sockets m none =
     let each = or_else-none (each_port_found sockets 0 (port_tables m)) None few.1 in
     let whole = or_else-none (parts_found sockets (config_of m)) None rest.1 in
     let apart = or_else-none (option_map overlap_fault (overlap_found 0 (parts (config_of m)))) _ whole.0 in
+    let lines = or_else-none (lines_found 0 (config_of m).ports) _ apart.1 in
+    let needs = or_else-none (needs_found 0 (config_of m).ports) _ lines.1 in
     record {
       machine = machine-kept (machine_table m) (ports_of (port_tables m)) machine.0;
       few = subst (λ n. n ≤ 16) (sym (length-ports_of (port_tables m))) (few-kept (length (port_tables m)) few.0);
       ports = ports-kept sockets 0 (port_tables m) each.0;
       apart = unmapped (overlap_found 0 (parts (config_of m))) apart.0;
+      needs = needs.0;
     }
 
 there-kept : (p count : ℕ) → served_found (Port p) count ≡ None → p < count

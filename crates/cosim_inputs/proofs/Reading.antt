@@ -5,6 +5,7 @@ use Rattle.std.specs.declared.option.Option.{Option}
 use Rattle.std.specs.declared.option.Option.TheVariants.{Some, None}
 use Rattle.cos_base.specs.Stores.{Store}
 use Rattle.cos_config.specs.declared.config.PortConfig.{PortConfig}
+use Rattle.cos_config.specs.declared.config.PortKind.{PortKind}
 use Rattle.outcomes.specs.declared.failures.ReadFault.{ReadFault}
 use Rattle.outcomes.specs.declared.failures.ReadFault.TheVariants.{Refused, Failed, NoMemory}
 use Rattle.outcomes.specs.Seen.{Seen}
@@ -13,7 +14,7 @@ use Rattle.outcomes.specs.Steps.{IsStanding}
 use Rattle.outcomes.proofs.After.{both, joined-told, stand-after-of, stands-after, blamed-after}
 use Rattle.cosim_inputs.specs.declared.refusals.InputsRefusal.{InputsRefusal}
 use Rattle.cos_parts.specs.declared.any_device.AnyDevice.{AnyDevice}
-use Rattle.cosim_inputs.specs.Fresh.{device_of, devices_of}
+use Rattle.cosim_inputs.specs.Fresh.{device_of, devices_of, kind_of, device_kinds, port_kinds}
 use Rattle.cosim_inputs.specs.Limits.{IsPort, ArePorts}
 use Rattle.cosim_inputs.specs.Inputs.{Asked, refusal, or_refused, trouble_at, trouble, port_files, ports_files}
 use Rattle.cosim_inputs.specs.Reads.{AreRead, AreUnread, AreLacking}
@@ -132,6 +133,16 @@ devices-next (Some m) n ps p ds es d small is more are mid told here =
     let one = subst (λ o. IfSome o (λ k. d ≡ device_of k p)) told here in
     more ∙ ap (λ l. l ++ d ∷ []) are ∙ ap (λ x. devices_of m (take n ps) ++ x ∷ []) (one ∙ ap (λ q. device_of m q) is)
     ∙ sym (ap (λ l. map (device_of m) l) (take_more ps n p small) ∙ map-append (device_of m) (take n ps) (get_or ps n p ∷ []))
+
+-- and their kinds
+pub kinds-next : (n : ℕ) (ps : List PortConfig) (p : PortConfig) (ds es : List AnyDevice) (d : AnyDevice)
+    → n < length ps → p ≡ get_or ps n p → es ≡ ds ++ d ∷ [] → device_kinds ds ≡ port_kinds (take n ps)
+    → kind_of d ≡ p.kind → device_kinds es ≡ port_kinds (take (n + 1) ps)
+kinds-next n ps p ds es d small is more are here =
+    let kind : PortConfig → PortKind = λ q. q.kind in
+    ap device_kinds more ∙ map-append kind_of ds (d ∷ []) ∙ ap (λ ks. ks ++ kind_of d ∷ []) are
+    ∙ ap (λ k. port_kinds (take n ps) ++ k ∷ []) (here ∙ ap kind is)
+    ∙ sym (ap port_kinds (take_more ps n p small) ∙ map-append kind (take n ps) (get_or ps n p ∷ []))
 
 -- What stands against the first files stands against all.
 refused-front : (old : Option Store) (xs ys : List Asked) (p : Outcome InputsRefusal) → IfSome old (λ m. trouble m xs ≡ Some p) → IfSome old (λ m. trouble m (xs ++ ys) ≡ Some p)

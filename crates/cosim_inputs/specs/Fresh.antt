@@ -40,6 +40,21 @@ device_of m p = device_as p.kind m p
 abbrev pub devices_of : Store → List PortConfig → List AnyDevice
 devices_of m ports = map (device_of m) ports
 
+-- the kind of port that a device is for, and the kinds of devices and of ports
+
+abbrev pub kind_of : AnyDevice → PortKind
+kind_of (Null d) = kind.Null
+kind_of (Timer d) = kind.Timer
+kind_of (Uart d) = kind.Uart
+kind_of (Dma d) = kind.Dma
+kind_of (Disk d) = kind.Disk
+
+abbrev pub device_kinds : List AnyDevice → List PortKind
+device_kinds devices = map kind_of devices
+
+abbrev pub port_kinds : List PortConfig → List PortKind
+port_kinds ports = map (λ (p : PortConfig). p.kind) ports
+
 -- RAM that begins with the image, and goes on with zeros
 abbrev pub ram_of : Store → Config → List ℕ
 ram_of m c = overwritten (replicate c.ram 0) 0 (bytes_in m c.image)

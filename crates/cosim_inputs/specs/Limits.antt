@@ -7,7 +7,7 @@ use Rattle.cos_config.specs.declared.config.Config.{Config}
 use Rattle.cos_config.specs.declared.config.Sockets.{Sockets}
 use Rattle.cos_config.specs.declared.config.Sockets.TheVariants.{Unneeded, All, Port}
 use Rattle.cos_map.specs.Parts.{overlap_found}
-use Rattle.cos_config.specs.Rules.{parts}
+use Rattle.cos_config.specs.Rules.{parts, needs_found}
 
 pub record IsPort (p : PortConfig) : Type 0 where
   pub base : p.base % 4096 ≡ 0
@@ -36,6 +36,7 @@ pub record IsWithinLimits (c : Config) : Type 0 where
   pub few : length c.ports ≤ 16
   pub ports : ArePorts c.ports
   pub apart : overlap_found 0 (parts c) ≡ None
+  pub needs : needs_found 0 c.ports ≡ None
 
 -- The port whose device is to be served is there.
 abbrev pub HasServed : Sockets → Config → Type 0

@@ -5,7 +5,7 @@ ghost use Rattle.outcomes.specs.Seen.{seen};
 ghost use Rattle.outcomes.specs.Asked.{asking, AsksEach};
 ghost use Rattle.cosim_inputs.specs.Limits.{IsPort, ArePorts};
 ghost use Rattle.cosim_inputs.specs.Inputs.{asked_as, port_files, ports_files, names_read, AsInput, AsDisk};
-ghost use Rattle.cosim_inputs.specs.Fresh.{bytes_in, device_of, devices_of};
+ghost use Rattle.cosim_inputs.specs.Fresh.{bytes_in, device_of, devices_of, kind_of, device_kinds, port_kinds};
 ghost use Rattle.cosim_inputs.specs.Reads.{AreRead, AreUnread, AreLacking};
 
 use crate::named_file::read_named;
@@ -112,6 +112,7 @@ fn read_uart<F: Files>(
     ensures ok { IfOk result (λ _. AreRead (seen F.count F.told files.old files.new) (port_files port config.now)) }
     ensures device { IfOk result (λ d. IfSome (F.told files.old) (λ m. d ≡ device_of m config.now)) }
     ensures fresh { IfOk result (λ d. any_seen d ≡ 0) }
+    ensures kind { IfOk result (λ d. kind_of d ≡ config.now.kind) }
     ensures err { IfErr result (AreUnread (seen F.count F.told files.old files.new) (port_files port config.now)) }
     ensures asks { AsksEach (names_read (port_files port config.now)) (asking F.told F.asked files.old files.new) result }
     ensures is_sound { F.sound files.old → F.sound files.new × IfErr result (AreLacking (F.told files.old) (port_files port config.now)) }
@@ -134,6 +135,7 @@ fn read_disk<F: Files>(
     ensures ok { IfOk result (λ _. AreRead (seen F.count F.told files.old files.new) (port_files port config.now)) }
     ensures device { IfOk result (λ d. IfSome (F.told files.old) (λ m. d ≡ device_of m config.now)) }
     ensures fresh { IfOk result (λ d. any_seen d ≡ 0) }
+    ensures kind { IfOk result (λ d. kind_of d ≡ config.now.kind) }
     ensures err { IfErr result (AreUnread (seen F.count F.told files.old files.new) (port_files port config.now)) }
     ensures asks { AsksEach (names_read (port_files port config.now)) (asking F.told F.asked files.old files.new) result }
     ensures is_sound { F.sound files.old → F.sound files.new × IfErr result (AreLacking (F.told files.old) (port_files port config.now)) }
@@ -164,6 +166,7 @@ pub fn read_device<F: Files>(
     ensures ok { IfOk result (λ _. AreRead (seen F.count F.told files.old files.new) (port_files port config.now)) }
     ensures device { IfOk result (λ d. IfSome (F.told files.old) (λ m. d ≡ device_of m config.now)) }
     ensures fresh { IfOk result (λ d. any_seen d ≡ 0) }
+    ensures kind { IfOk result (λ d. kind_of d ≡ config.now.kind) }
     ensures err { IfErr result (AreUnread (seen F.count F.told files.old files.new) (port_files port config.now)) }
     ensures asks { AsksEach (names_read (port_files port config.now)) (asking F.told F.asked files.old files.new) result }
     ensures is_sound { F.sound files.old → F.sound files.new × IfErr result (AreLacking (F.told files.old) (port_files port config.now)) }
@@ -191,6 +194,7 @@ pub fn read_devices<F: Files>(
     // The devices are those of what the files hold.
     ensures devices { IfOk result (λ v. IfSome (F.told files.old) (λ m. v.items ≡ devices_of m ports.now)) }
     ensures fresh { IfOk result (λ v. All (λ d. any_seen d ≡ 0) v.items) }
+    ensures kinds { IfOk result (λ v. device_kinds v.items ≡ port_kinds ports.now) }
     ensures len { IfOk result (λ v. vec_len v ≡ length ports.now) }
     // The first file that is refused, the files blamed, or no memory.
     ensures err { IfErr result (AreUnread (seen F.count F.told files.old files.new) (ports_files 0 ports.now)) }

@@ -6,7 +6,7 @@ ghost use Rattle.outcomes.specs.Seen.{seen};
 ghost use Rattle.outcomes.specs.Asked.{asking, AsksEach};
 ghost use Rattle.cosim_inputs.specs.Limits.{IsWithinLimits};
 ghost use Rattle.cosim_inputs.specs.Inputs.{machine_files, names_read};
-ghost use Rattle.cosim_inputs.specs.Fresh.{master_of, devices_of};
+ghost use Rattle.cosim_inputs.specs.Fresh.{master_of, devices_of, device_kinds, port_kinds};
 ghost use Rattle.cosim_inputs.specs.Reads.{AreRead, AreUnread, AreLacking};
 
 use crate::devices::read_devices;
@@ -42,6 +42,7 @@ pub fn read_machine<F: Files>(
     ensures devices { IfOk result (λ p. IfSome (F.told files.old) (λ m. p.devices.items ≡ devices_of m config.now.ports)) }
     // They may be run, whatever the files tell.
     ensures few { IfOk result (λ p. length p.devices.items ≤ 16) }
+    ensures kinds { IfOk result (λ p. device_kinds p.devices.items ≡ port_kinds config.now.ports) }
     ensures fresh { IfOk result (λ p. All (λ d. any_seen d ≡ 0) p.devices.items) }
     ensures reach { IfOk result (λ p. any_reach p.master ≤ length p.devices.items) }
     ensures issued { IfOk result (λ p. any_issued p.master ≡ None) }

@@ -8,6 +8,7 @@ use itoa::Buffer;
 /// A piece of a line.
 #[derive(Clone, Copy)]
 pub enum Piece<'a> {
+    /// A text as it stands.
     Text(&'a str),
     /// A number in decimal digits.
     Decimal(u64),

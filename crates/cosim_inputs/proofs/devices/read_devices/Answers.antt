@@ -6,7 +6,7 @@ use Rattle.cosim_inputs.specs.Inputs.{port_files, ports_files, names_read}
 use Rattle.cosim_inputs.specs.Reads.{AreRead, AreUnread, AreLacking}
 use Rattle.outcomes.proofs.After.{joined-told}
 use Rattle.cosim_inputs.proofs.Asking.{asks-both, up-to-within, some-within, unread-stands}
-use Rattle.cosim_inputs.proofs.Reading.{port-at, read-both, unread-within, lacks-within, ports_files-next, ports_files-rest, devices-next}
+use Rattle.cosim_inputs.proofs.Reading.{port-at, read-both, unread-within, lacks-within, ports_files-next, ports_files-rest, devices-next, kinds-next}
 use Rattle.cosim_inputs.proofs.devices.read_devices.Goals as goal
 
 pub read_device-requires : goal.read_device-requires
@@ -60,6 +60,7 @@ ports-preserved g c =
       devices = devices-next (g.F.Files.told c.args.files.now) i c.args.ports.now x _ _ _ c.ports-test.true c.config-item.is c.in-Ok-push.ensures.items c.ports.invariant.devices
           (g.F.Files.told c.ports.files) (joined-told f h c.ports.invariant.read.stands refl) c.in-Ok.ensures.device;
       fresh = grind (arith, common_steps, c.in-Ok-push.ensures.items, c.ports.invariant.fresh, c.in-Ok.ensures.fresh);
+      kinds = kinds-next i c.args.ports.now x _ _ _ c.ports-test.true c.config-item.is c.in-Ok-push.ensures.items c.ports.invariant.kinds c.in-Ok.ensures.kind;
       count = omega (arith, c.in-Ok-push.ensures.len, c.ports.invariant.count);
       sound = λ is. (c.in-Ok.ensures.is_sound (c.ports.invariant.sound is)).0;
     }

@@ -1,0 +1,2 @@
+pub mod FittingParts
+mod Making
