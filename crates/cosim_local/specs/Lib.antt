@@ -1,0 +1,5 @@
+pub mod Ordering
+pub mod Results
+pub mod Traffic
+pub mod Locals
+pub mod Steps
