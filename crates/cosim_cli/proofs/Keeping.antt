@@ -9,14 +9,15 @@ use Rattle.statuses.specs.declared.status.Status.TheVariants as status
 use Rattle.cosim_assembly.specs.declared.refusals.AsmRefusal.TheVariants as asm
 use Rattle.cosim_assembly.specs.declared.refusals.DisRefusal.TheVariants as dis
 use Rattle.cosim_inputs.specs.declared.refusals.InputsRefusal.TheVariants as inputs
+use Rattle.cosim_local.specs.declared.refusal.LocalRefusal.TheVariants as local
 use Rattle.cosim_packets.specs.declared.refusals.PackRefusal.TheVariants as pack
 use Rattle.cosim_packets.specs.declared.refusals.ShowRefusal.TheVariants as show
 use Rattle.cosim_serve.specs.declared.refusal.DeviceRefusal.TheVariants as device
 use Rattle.cosim_device.specs.declared.refusal.PortRefusal.TheVariants as port
-use Rattle.cosim_cli.specs.Ended.{ended_status, show_refused, pack_refused, asm_refused, dis_refused, inputs_refused, device_refused, port_refused}
+use Rattle.cosim_cli.specs.Ended.{ended_status, show_refused, pack_refused, asm_refused, dis_refused, inputs_refused, device_refused, port_refused, local_refused}
 use Rattle.cosim_cli.specs.Promises.{Around, Keeps, Promises, none_refused}
 use Rattle.cosim_cli.specs.Usage.{Uses}
-use Rattle.cosim_words.specs.Words.{Command, DeviceNull, DeviceTimer, DevicePort, Show, Pack, Asm, Dis, Direct, Help, IsInRange, words_of}
+use Rattle.cosim_words.specs.Words.{Command, DeviceNull, DeviceTimer, DevicePort, Show, Pack, Asm, Dis, Direct, Local, Help, IsInRange, words_of}
 
 -- No refusal is told as Usage, and so no command ends by it.
 abbrev NeverUsage : {R : Type 0} → (R → Status) → Type 0
@@ -50,6 +51,10 @@ port-never : NeverUsage port_refused
 port-never (port.Inputs refusal) index same = inputs-never refusal index same
 port-never (port.Peer refusal) index same = device-never refusal index same
 
+local-never : NeverUsage local_refused
+local-never (local.Inputs refusal) index same = inputs-never refusal index same
+local-never (local.Steps number) index same = cc (same)
+
 none-never : NeverUsage none_refused
 none-never never index same = never
 
@@ -68,6 +73,8 @@ never-usage (Pack file) a index keeps = ended-never pack_refused pack-never keep
 never-usage (Asm file out) a index keeps = ended-never asm_refused asm-never keeps.result index keeps.status
 never-usage (Dis file) a index keeps = ended-never dis_refused dis-never keeps.result index keeps.status
 never-usage (Direct config) a index keeps = ended-never inputs_refused inputs-never keeps.result index keeps.status
+never-usage (Local config order) a index keeps =
+    ended-never local_refused local-never keeps.2.result index keeps.2.status
 never-usage Help a index keeps = ended-never none_refused none-never keeps.result index keeps.status
 
 pub kept-uses : {L : Type 0} (words : List (List ℕ)) (c : Command) (a : Around L) (s : Status) → IsInRange c → words ≡ words_of c → Keeps c a s → Uses words s

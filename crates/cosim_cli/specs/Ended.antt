@@ -13,6 +13,8 @@ use Rattle.cosim_assembly.specs.declared.refusals.DisRefusal.{DisRefusal}
 use Rattle.cosim_assembly.specs.declared.refusals.DisRefusal.TheVariants as dis
 use Rattle.cosim_inputs.specs.declared.refusals.InputsRefusal.{InputsRefusal}
 use Rattle.cosim_inputs.specs.declared.refusals.InputsRefusal.TheVariants as inputs
+use Rattle.cosim_local.specs.declared.refusal.LocalRefusal.{LocalRefusal}
+use Rattle.cosim_local.specs.declared.refusal.LocalRefusal.TheVariants as local
 use Rattle.cosim_packets.specs.declared.refusals.PackRefusal.{PackRefusal}
 use Rattle.cosim_packets.specs.declared.refusals.PackRefusal.TheVariants as pack
 use Rattle.cosim_packets.specs.declared.refusals.ShowRefusal.{ShowRefusal}
@@ -55,3 +57,7 @@ device_refused (device.Peer port fault) = status.Peer port fault
 abbrev pub port_refused : PortRefusal → Status
 port_refused (port.Inputs refusal) = inputs_refused refusal
 port_refused (port.Peer refusal) = device_refused refusal
+
+abbrev pub local_refused : LocalRefusal → Status
+local_refused (local.Inputs refusal) = inputs_refused refusal
+local_refused (local.Steps number) = status.Input (input.Line number)

@@ -26,9 +26,13 @@ use Rattle.cosim_device.specs.Starts.{null_start, timer_start}
 use Rattle.cosim_device.specs.Served.{PortEnded, PortView, ServesPort}
 use Rattle.cosim_serve.specs.Talks.{Ended}
 use Rattle.cosim_cli.specs.Ended.{ended_status, show_refused, pack_refused, asm_refused, dis_refused, inputs_refused}
-use Rattle.cosim_cli.specs.Ended.{device_refused, port_refused}
+use Rattle.cosim_cli.specs.Ended.{device_refused, port_refused, local_refused}
 use Rattle.cosim_cli.specs.Help.{Helps}
-use Rattle.cosim_words.specs.Words.{Command, DeviceNull, DeviceTimer, DevicePort, Show, Pack, Asm, Dis, Direct, Help}
+use Rattle.cosim_local.specs.declared.order.Order.{Order as Run}
+use Rattle.cosim_local.specs.declared.order.Order.TheVariants as run
+use Rattle.cosim_local.specs.Locals.{LocalComes, local_names, result_names}
+use Rattle.cosim_words.specs.Words.{Order, Default, Schedule, Steps}
+use Rattle.cosim_words.specs.Words.{Command, DeviceNull, DeviceTimer, DevicePort, Show, Pack, Asm, Dis, Direct, Local, Help}
 use Rattle.cosim_words.specs.Words.{IsInRange, words_of}
 
 -- what is around a call: its objects before and after it, the names that the files were asked for, whether the objects
@@ -80,6 +84,15 @@ pub record ServedPort {L : Type 0} (socket config : List ℕ) (port : ℕ) (a : 
   pub status : s ≡ ended_status port_refused result
   pub out : IsUntouched a.out
 
+-- An order of steps is the one that the words name; where they name none, it is the schedule of number 0.
+abbrev pub IsNamed : Order → Run → Type 0
+IsNamed Default (run.Schedule number) = number ≡ 0
+IsNamed (Schedule named) (run.Schedule number) = number ≡ named
+IsNamed (Steps named) (run.Steps file) = file.now ≡ named
+IsNamed Default (run.Steps file) = ⊥
+IsNamed (Schedule named) (run.Steps file) = ⊥
+IsNamed (Steps named) (run.Schedule number) = ⊥
+
 -- it refuses nothing
 abbrev pub none_refused : ⊥ → Status
 none_refused never = absurd never
@@ -96,6 +109,9 @@ Keeps (Asm file out) a s =
 Keeps (Dis file) a s = Performed dis_refused (DisComes file a.files.old) (λ m. file ∷ []) (λ m. []) a s
 Keeps (Direct config) a s =
     Performed inputs_refused (DirectComes a.files.old config) (direct_names config) (λ m. []) a s
+Keeps (Local config order) a s =
+    (o : Run) × IsNamed order o
+    × Performed local_refused (LocalComes a.files.old config o) (local_names config o) (result_names config) a s
 Keeps Help a s = Performed none_refused Helps (λ m. []) (λ m. []) a s
 
 -- the words are those of a command, and it keeps its promise

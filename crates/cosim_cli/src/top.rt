@@ -4,9 +4,9 @@ ghost use Rattle.outcomes.specs.Seen.{seen};
 ghost use Rattle.outcomes.specs.Asked.{asking};
 ghost use Rattle.statuses.specs.Lines.{TellsStatus, line_of};
 ghost use Rattle.statuses.specs.Takes.{TakesAll};
-ghost use Rattle.cosim_cli.specs.Promises.{Keeps, Promises};
+ghost use Rattle.cosim_cli.specs.Promises.{IsNamed, Keeps, Promises};
 ghost use Rattle.cosim_cli.specs.Usage.{Uses, StopsAt};
-ghost use Rattle.cosim_words.specs.Words.{asked};
+ghost use Rattle.cosim_words.specs.Words.{asked, asked_order};
 
 use crate::help::help;
 use crate::refusals::status_of;
@@ -14,11 +14,23 @@ use cos_base::{Files, Network, Sink};
 use cosim_assembly::{asm, dis};
 use cosim_device::{serve_null, serve_port, serve_timer};
 use cosim_direct::direct;
+use cosim_local::local;
 use cosim_packets::{pack, show};
-use cosim_words::{Command, command_of, stop_of};
+use cosim_words::{Command, Order, command_of, stop_of};
 use outcomes::{Object, OutFailure};
 use statuses::{Status, tell_status};
 use std::alloc::Global;
+
+/// The order of a run's steps that words name; the schedule of number 0 where they name none.
+fn order_of(order: Order<'_>) -> cosim_local::Order<'_>
+    ensures { IsNamed (asked_order order.entry) result }
+{
+    match order {
+        Order::Default => cosim_local::Order::Schedule { number: 0 },
+        Order::Schedule(number) => cosim_local::Order::Schedule { number },
+        Order::Steps(file) => cosim_local::Order::Steps { file },
+    }
+}
 
 /// Does a command.
 fn perform<F: Files, K: Sink, N: Network>(
@@ -54,6 +66,9 @@ fn perform<F: Files, K: Sink, N: Network>(
         Command::Asm { file, out: target } => status_of(asm(alloc, file, target, files)),
         Command::Dis { file } => status_of(dis(alloc, file, files, out)),
         Command::Direct { config } => status_of(direct(alloc, config, files, out)),
+        Command::Local { config, order } => {
+            status_of(local(alloc, config, order_of(order), files, out))
+        }
         Command::Help => match help(out) {
             Ok(()) => Status::Done,
             Err(OutFailure { count }) => Status::Outside {
@@ -76,6 +91,8 @@ fn perform<F: Files, K: Sink, N: Network>(
 /// | `asm FILE OUT` | writes the image of an assembly to OUT, and prints nothing |
 /// | `dis FILE` | prints the words of an image, a line each |
 /// | `direct CONFIG` | runs the machine of a configuration without packets, and prints a line for each call and the closing lines |
+/// | `local CONFIG` | runs it as ends that exchange packets, in one process, under schedule 0, and prints the same lines, a line for each link, and how many steps were effective; before, the sectors of disks are written to their `result` |
+/// | `local CONFIG schedule N`, `local CONFIG steps FILE` | the same under the schedule of a number, or a list of steps and then schedule 0 |
 /// | `help` | prints a line for each command, those that are still to come among them |
 pub fn cosim<F: Files, K: Sink, E: Sink, N: Network>(
     alloc: Global,

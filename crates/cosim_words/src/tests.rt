@@ -50,8 +50,6 @@ fn words_are_read_as_commands(rt: HostRuntime) -> Result<(), Fail> {
     assert!(rt; reads(alloc, &["dis", "f"], Ok(Command::Dis { file }))?);
     assert!(rt; reads(alloc, &["direct", "c"], Ok(Command::Direct { config }))?);
     assert!(rt; reads(alloc, &["help"], Ok(Command::Help))?);
-    let number = u32::MAX;
-    assert!(rt; reads(alloc, &["gen", "4294967295"], Ok(Command::Gen { number }))?);
     Ok(())
 }
 
@@ -79,7 +77,7 @@ fn a_local_run_has_an_order(rt: HostRuntime) -> Result<(), Fail> {
 #[test]
 fn other_words_stop_being_one(rt: HostRuntime) -> Result<(), Fail> {
     let alloc = rt.alloc();
-    let rows: [(&[&str], u64); 20] = [
+    let rows: [(&[&str], u64); 18] = [
         (&[], 0),
         (&["devices", "s", "null"], 0),
         (&["device", "s"], 2),
@@ -98,8 +96,6 @@ fn other_words_stop_being_one(rt: HostRuntime) -> Result<(), Fail> {
         (&["local", "c", "schedule", "4294967296"], 3),
         (&["local", "c", "steps"], 3),
         (&["local", "c", "steps", "f", "x"], 4),
-        (&["gen"], 1),
-        (&["gen", "01"], 1),
     ];
     for (texts, index) in rows {
         assert!(rt; reads(alloc, texts, Err(index))?, "at {index}");

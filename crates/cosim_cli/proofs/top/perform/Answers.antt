@@ -65,6 +65,21 @@ pub returns-in-Direct : goal.returns-in-Direct
 returns-in-Direct g c =
     rw c.in-Direct.is (record { result = c.direct.result; performs = c.direct.ensures.performs; asks = c.direct.ensures.asks; status = c.status_of-in-Direct.ensures; net = record { count = refl; same = refl } })
 
+pub returns-in-Local : goal.returns-in-Local
+returns-in-Local g c =
+    rw c.in-Local.is
+    (
+      c.order_of.result,
+      c.order_of.ensures,
+      record {
+        result = c.local.result;
+        performs = c.local.ensures.performs;
+        asks = c.local.ensures.asks;
+        status = c.status_of-in-Local.ensures;
+        net = record { count = refl; same = refl };
+      },
+    )
+
 pub returns-in-Ok : goal.returns-in-Ok
 returns-in-Ok g c =
     rw c.in-Help.is (helps _ (Ok tt) (record { count = refl; same = refl }) refl (record { count = refl; same = refl }) c.in-Ok.ensures.puts c.in-Ok.ensures.is_sound)
