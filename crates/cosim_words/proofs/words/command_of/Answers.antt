@@ -73,10 +73,7 @@ returns-clause-err c =
                         run,
                         (
                           run,
-                          (
-                            c.is_word-8.ensures.no c.if-is_word-8.false,
-                            (c.is_word-8.ensures.no c.if-is_word-8.false, tt),
-                          ),
+                          (c.is_word-8.ensures.no c.if-is_word-8.false, tt),
                         ),
                       ),
                     ),
