@@ -1,5 +1,7 @@
-use crate::{DiskFiles, StdSink, UnixNet};
-use cos_base::{FileFault, Files, Got, Link, NetFault, Network, Put, Sink};
+use crate::{ChildSpawner, DiskFiles, StdSink, UnixNet};
+use cos_base::{FileFault, Files, Got, Link, NetFault, Network, NoMemory, Put, Sink};
+use cos_children::{SpawnFault, Spawner};
+use std::alloc::Global;
 use std::test::Fail;
 use std::{fs, process};
 
@@ -51,5 +53,87 @@ fn unix_sockets_carry_bytes(rt: HostRuntime) -> Result<(), Fail> {
     assert!(rt; carries(near, &mut far));
     // the listener is gone, with its file
     assert!(rt; matches!(net.connect(path.as_str()), Err(NetFault::Failed)));
+    Ok(())
+}
+
+fn words(alloc: Global, texts: &[&str]) -> Result<Vec<String>, NoMemory> {
+    let mut words = Vec::new(alloc);
+    for text in texts {
+        words.push(String::from_str(alloc, text)?)?;
+    }
+    Ok(words)
+}
+
+/// How a child of these words ends.
+fn ends<S: Spawner>(alloc: Global, spawner: &mut S, texts: &[&str]) -> Result<u8, SpawnFault> {
+    let words = words(alloc, texts)?;
+    let child = spawner.start(words.as_slice())?;
+    spawner.wait(child)
+}
+
+#[test]
+fn processes_end_with_their_statuses(rt: HostRuntime) {
+    let mut spawner = ChildSpawner::make(rt.alloc(), &rt);
+    assert_eq!(rt; ends(rt.alloc(), &mut spawner, &["/bin/true"]), Ok(0));
+    assert_eq!(rt; ends(rt.alloc(), &mut spawner, &["/bin/false"]), Ok(1));
+    assert_eq!(rt;
+        ends(rt.alloc(), &mut spawner, &["/bin/sh", "-c", "exit 7"]),
+        Ok(7)
+    );
+    assert_eq!(rt; spawner.faults(), 0);
+}
+
+#[test]
+fn processes_that_give_no_status_are_failures(rt: HostRuntime) {
+    let mut spawner = ChildSpawner::make(rt.alloc(), &rt);
+    assert_eq!(rt;
+        ends(rt.alloc(), &mut spawner, &["/bin/sh", "-c", "kill -9 $$"]),
+        Err(SpawnFault::Failed)
+    );
+    assert_eq!(rt;
+        ends(rt.alloc(), &mut spawner, &["/none/of/this/name"]),
+        Err(SpawnFault::Failed)
+    );
+    assert_eq!(rt;
+        ends(rt.alloc(), &mut spawner, &[]),
+        Err(SpawnFault::Failed)
+    );
+    assert_eq!(rt; spawner.wait(0), Err(SpawnFault::Failed));
+    assert_eq!(rt; spawner.faults(), 4);
+}
+
+#[test]
+fn dropping_a_spawner_leaves_no_process_behind(rt: HostRuntime) -> Result<(), Fail> {
+    let id = process::id(rt.process());
+    let time = format!(in rt.alloc(); "50.{id}")?;
+    let sleep = words(rt.alloc(), &["/bin/sleep", time.as_str()])?;
+    let quick = words(rt.alloc(), &["/bin/true"])?;
+    // whether that sleep runs, and whether the system keeps a child of this process that ended
+    let runs = format!(in rt.alloc(); "grep -qs '50[.]{id}' /proc/[0-9]*/cmdline")?;
+    let kept = format!(in rt.alloc(); "grep -qs ') Z {id} ' /proc/[0-9]*/stat")?;
+    let soon = format!(in rt.alloc();
+        "for i in 1 2 3 4 5 6 7 8 9; do {kept} && exit 0; sleep 1; done; exit 1"
+    )?;
+    let mut others = ChildSpawner::make(rt.alloc(), &rt);
+    let mut spawner = ChildSpawner::make(rt.alloc(), &rt);
+    assert_eq!(rt; spawner.start(sleep.as_slice()), Ok(0));
+    assert_eq!(rt; spawner.start(quick.as_slice()), Ok(1));
+    assert_eq!(rt;
+        ends(rt.alloc(), &mut others, &["/bin/sh", "-c", runs.as_str()]),
+        Ok(0)
+    );
+    assert_eq!(rt;
+        ends(rt.alloc(), &mut others, &["/bin/sh", "-c", soon.as_str()]),
+        Ok(0)
+    );
+    drop(spawner);
+    assert_ne!(rt;
+        ends(rt.alloc(), &mut others, &["/bin/sh", "-c", runs.as_str()]),
+        Ok(0)
+    );
+    assert_ne!(rt;
+        ends(rt.alloc(), &mut others, &["/bin/sh", "-c", kept.as_str()]),
+        Ok(0)
+    );
     Ok(())
 }
