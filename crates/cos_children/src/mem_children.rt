@@ -1,5 +1,6 @@
 // The children of a spawner in memory.
-ghost use Rattle.std.specs.Prelude.{◌≡◌, ◌+◌, ◌≤◌, ◌++◌, [], ◌∷◌, ℕ, IfOk, OnErr, OnOk, length, map, nat_lt, string_bytes, vec_len, vec_capacity};
+ghost use Rattle.std.specs.Prelude.{◌≡◌, ◌+◌, ◌≤◌, ◌++◌, [], ◌∷◌, ℕ, IfOk, OnErr, OnOk, length, map, nat_lt};
+ghost use Rattle.std.specs.Prelude.{string_bytes, vec_len, vec_capacity};
 ghost use Rattle.cos_children.specs.Children.{AreChildren, IsNew, Runs, times, with_started, with_stopped, with_ended};
 ghost use Rattle.cos_children.specs.MemChildLists.{told_of};
 

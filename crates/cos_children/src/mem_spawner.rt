@@ -26,7 +26,8 @@ impl MemSpawner {
     /// is none. The calls with the numbers of `failing`, counted from 0, fail. It takes no memory.
     pub fn make(alloc: Global, statuses: Numbers, failing: Numbers) -> MemSpawner
         requires { All (λ s. s < 256) statuses }
-        ensures told { ⟦<MemSpawner as Spawner>⟧.told result ≡ Some (record { started = []; ended = []; running = [] }) }
+        ensures told { ⟦<MemSpawner as Spawner>⟧.told result
+            ≡ Some (record { started = []; ended = []; running = [] }) }
         ensures count { ⟦<MemSpawner as Spawner>⟧.count result ≡ 0 }
         ensures calls { IsUncalled (spawner_calls result) failing }
         ensures statuses { spawner_statuses result ≡ statuses }
@@ -99,7 +100,8 @@ impl Spawner for MemSpawner {
     /// It fails exactly where its call is listed or the child doesn't run.
     fn wait(&mut self, child: u32) -> Result<u8, SpawnFault>
         ensures counts { SpawnCounts self.old.calls.faults self.new.calls.faults result }
-        ensures tells { Waits (Some (children_of self.old.children)) (Some (children_of self.new.children)) child result }
+        ensures tells { Waits (Some (children_of self.old.children)) (Some (children_of self.new.children))
+            child result }
         ensures status { IfOk result (λ s. s ≡ status_at (spawner_statuses self.old) child) }
         ensures calls { SpawnCalls (spawner_calls self.old) (spawner_calls self.new)
             (Runs (children_of self.old.children) child → ⊥) result }
