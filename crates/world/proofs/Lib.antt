@@ -7,4 +7,4 @@ mod Making
 mod Reaching
 mod Taking
 mod Finishing
-mod OneRun
+pub mod OneRun
