@@ -1,1 +1,10 @@
-
+mod Closing
+mod Counted
+mod Having
+mod Naming
+mod OneComes
+mod Performing
+mod Places
+mod Printing
+mod Starting
+mod Writing

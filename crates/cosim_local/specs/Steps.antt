@@ -1,5 +1,5 @@
 -- The steps of `local`: what its run begins with is had, the world is run to its end, and the results are written.
-use Rattle.std.specs.Prelude.{◌≡◌, ℕ, ◌≤◌, List, [], ◌∷◌, ◌++◌, length, map, All, IfSome, Option, Result, Ok, Err}
+use Rattle.std.specs.Prelude.{◌≡◌, ℕ, ◌+◌, ◌≤◌, List, [], ◌∷◌, ◌++◌, length, map, All, IfSome, Option, Result, Ok, Err}
 use Rattle.cos_base.specs.Stores.{Store}
 use Rattle.cos_config.specs.declared.config.PortConfig.{PortConfig}
 use Rattle.cos_config.specs.Plans.{plan_of}
@@ -74,6 +74,7 @@ pub record IsPlanned (f : Seen Store) (name : List ℕ) (order : Order) (p : Pla
 -- The parts may be run, whatever the files tell.
 pub record MayRun (p : Parts) : Type 0 where
   pub few : length p.config.ports ≤ 16
+  pub each : length p.machine.devices.items ≡ length p.config.ports
   pub fresh : All (λ d. devices.any_seen d ≡ 0) p.machine.devices.items
   pub fit :
       Fit masters.any_model devices.any_model (plan_of p.config) p.machine.master

@@ -27,6 +27,7 @@ fn finish<F: Files>(
     files: &mut F,
 ) -> Result<Finished, ReadFault<LocalRefusal>>
     ensures ok { IfOk result (IsRun (seen F.count F.told files.old files.new) name.now order.entry) }
+    ensures few { IfOk result (λ done. length done.config.ports ≤ 16) }
     ensures ports { IfOk result (λ done. length done.config.ports ≡ length done.world.start.ports) }
     ensures lines { IfOk result (λ done. All HasLine done.world.now.hub.core.calls) }
     ensures empty { IfOk result (λ done. done.piece.bytes ≡ []) }
@@ -57,16 +58,10 @@ fn put_finished<K: Sink>(finished: Finished, out: &mut K) -> Result<(), OutFailu
     ensures is_sound { K.sound out.old → IsRoomFor (K.room out.old)
         (run_text finished.world.now.hub.core.calls finished.end ++ finished.traffic.bytes) result }
 {
-    let Finished {
-        config: _,
-        world,
-        end,
-        traffic,
-        piece,
-    } = finished;
-    let mut piece = piece;
-    match put_lines(world.machine().calls(), &end, &mut piece, out) {
-        Ok(()) => put_text(out, traffic.as_slice()),
+    let mut finished = finished;
+    let calls = finished.world.machine().calls();
+    match put_lines(calls, &finished.end, &mut finished.piece, out) {
+        Ok(()) => put_text(out, finished.traffic.as_slice()),
         Err(Failed) => Err(OutFailure {
             count: out.faults(),
         }),

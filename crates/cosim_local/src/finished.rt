@@ -130,6 +130,7 @@ fn close(alloc: Global, config: Config, world: MachineWorld) -> Result<Finished,
     ensures empty { IfOk result (λ done. done.piece.bytes ≡ []) }
     ensures room { IfOk result (λ done. 512 ≤ done.piece.spare) }
 {
+    world.is_on_its_way();
     let end = ending_of_world(alloc, config.ports.as_slice(), &world)?;
     let traffic = traffic_of(alloc, &world)?;
     let piece = make_piece(alloc)?;
@@ -170,6 +171,7 @@ fn run_world(
 pub fn run(alloc: Global, planned: Planned) -> Result<Finished, NoMemory>
     requires { MayRun planned.parts }
     ensures finished { IfOk result (IsFinished planned) }
+    ensures ports { IfOk result (λ done. length done.config.ports ≡ length done.world.start.ports) }
     ensures lines { IfOk result (λ done. All HasLine done.world.now.hub.core.calls) }
     ensures empty { IfOk result (λ done. done.piece.bytes ≡ []) }
     ensures room { IfOk result (λ done. 512 ≤ done.piece.spare) }

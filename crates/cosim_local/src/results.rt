@@ -1,5 +1,5 @@
 // The files that a run writes at its end.
-ghost use Rattle.std.specs.Prelude.{◌≡◌, length};
+ghost use Rattle.std.specs.Prelude.{◌≡◌, ◌≤◌, length};
 ghost use Rattle.outcomes.specs.Asked.{asking};
 ghost use Rattle.outcomes.specs.Seen.{seen};
 ghost use Rattle.outcomes.specs.Steps.{BlamesNone};
@@ -34,14 +34,15 @@ pub fn write_results<F: Files>(
     world: &MachineWorld,
     files: &mut F,
 ) -> Result<(), FilesFailure>
-    requires { length ports.now ≡ length world.now.start.ports }
+    requires few { length ports.now ≤ 16 }
+    requires ports { length ports.now ≡ length world.now.start.ports }
     ensures writes { WritesAll (results_of ports.now (devices_in world.now))
         (seen F.count F.told files.old files.new) result }
     ensures asks { AsksResults (results_of ports.now (devices_in world.now))
         (asking F.told F.asked files.old files.new) result }
     ensures is_sound { F.sound files.old → F.sound files.new × BlamesNone result }
 {
-    'ports: for (port, settings) in ports.iter().enumerate() {
+    for (port, settings) in ports.iter().enumerate() {
         let end = world.device(port as u32);
         match write_result(files, &settings.result, end.device()) {
             Ok(()) => {}

@@ -7,5 +7,5 @@ mod Making
 mod Reaching
 mod Taking
 mod Finishing
-mod OneRun
+pub mod OneRun
 mod Ready
