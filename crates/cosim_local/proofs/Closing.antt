@@ -1,7 +1,6 @@
 -- What is printed of a world that is over, and what the command comes to then.
 use Rattle.std.specs.Prelude.{All, IfOk, IfSome}
 use Rattle.std.proofs.Common.{◌≡◌, ℕ, suc, List, [], ◌∷◌, ◌++◌, length, map, refl, sym, ap, ap₂, ◌∙◌, subst, arith}
-use Rattle.std.proofs.lemmas.List.{length-map}
 use Rattle.std.specs.declared.option.Option.{Option}
 use Rattle.std.specs.declared.option.Option.TheVariants.{Some, None}
 use Rattle.std.specs.declared.result.Result.{Result}
@@ -17,11 +16,11 @@ use Rattle.cos_parts.specs.AnyDevices as devices
 use Rattle.cos_parts.specs.AnyMasters as masters
 use Rattle.cosim_direct.specs.Directs.{machine_of}
 use Rattle.cosim_ends.specs.Sides.{sides_of}
-use Rattle.cosim_inputs.specs.Fresh.{device_of, devices_of, master_of, device_kinds, port_kinds, kind_of}
+use Rattle.cosim_inputs.specs.Fresh.{device_of, master_of}
 use Rattle.cosim_model.specs.Direct.{Direct, direct}
 use Rattle.ends_model.specs.World.{Fit}
 use Rattle.link_lines.specs.LinkLines.{traffic_text}
-use Rattle.outcomes.specs.Outcomes.{Outcome, Written, Works}
+use Rattle.outcomes.specs.Outcomes.{Written, Works}
 use Rattle.run_texts.specs.Endings.{IsEnding}
 use Rattle.run_texts.specs.Texts.{run_lines, uarts_from}
 use Rattle.run_texts.proofs.Listed.{direct-listed}
@@ -32,10 +31,8 @@ use Rattle.transcript.specs.ClosingLines.{run_text}
 use Rattle.world.specs.Worlds.{Start, WorldValue, EndsAfter, IsOver}
 use Rattle.cosim_local.specs.declared.finished.Finished.{Finished}
 use Rattle.cosim_local.specs.declared.order.Order.{Order}
-use Rattle.cosim_local.specs.declared.parts.Parts.{Parts}
 use Rattle.cosim_local.specs.declared.parts.Planned.{Planned}
-use Rattle.cosim_local.specs.declared.refusal.LocalRefusal.{LocalRefusal}
-use Rattle.cosim_local.specs.Locals.{start_of, written_by, local_lines, found, FoundTo, LocalComes, written_names, result_names}
+use Rattle.cosim_local.specs.Locals.{start_of, written_by, local_lines, FoundTo, LocalComes, written_names, result_names}
 use Rattle.cosim_local.specs.Ordering.{Orders}
 use Rattle.cosim_local.specs.Results.{results_of}
 use Rattle.cosim_local.specs.Traffic.{links_of}
@@ -60,11 +57,7 @@ module _ (w : WorldValue AnyMaster AnyDevice) (over : IsOver masters.any_model d
       subst (λ l. All HasLine l) (sym over.0.calls)
       (direct-listed masters.any_model devices.any_model w.start.plan devices.any_lawful w.start.master _)
 
--- Devices are as many as ports of the same kinds, and so are the ends of a world.
-
-pub kinds-each : (ds : List AnyDevice) (ps : List PortConfig) → device_kinds ds ≡ port_kinds ps → length ds ≡ length ps
-kinds-each ds ps same =
-    sym (length-map ds kind_of) ∙ ap length same ∙ length-map ps (λ (p : PortConfig). p.kind)
+-- The ends of a world are as many as its ports.
 
 sides-each : (ps : List PortConfig) (ds : List AnyDevice) → length ds ≡ length ps → length (sides_of ps ds) ≡ length ps
 sides-each [] ds each = refl

@@ -1,12 +1,7 @@
 -- The counts of a world that is over are those of the direct machine's traffic.
-use Rattle.std.specs.Prelude.{All}
-use Rattle.std.proofs.Common.{◌≡◌, ℕ, zero, suc, ◌+◌, ◌<◌, ◌≤◌, List, [], ◌∷◌, ◌++◌, length, drop, map, Option, Some, None, slice_get, refl, sym, ap, ap₂, ◌∙◌, subst, append_assoc, arith}
-use Rattle.process_network.specs.PacketStar.{written}
+use Rattle.std.proofs.Common.{◌≡◌, ℕ, suc, ◌+◌, ◌<◌, List, [], ◌∷◌, ◌++◌, length, drop, Some, slice_get, refl, sym, ap, ap₂, ◌∙◌, subst, append_assoc, arith}
 use Rattle.process_network.specs.Star.{link}
-use Rattle.cosim_model.specs.declared.values.Plan.{Plan}
-use Rattle.cosim_model.specs.Packets.{Codec, IsWritable, Packet}
-use Rattle.cosim_model.specs.Parts.{DeviceModel, MasterModel, IsDevice, IsMaster}
-use Rattle.cosim_model.specs.Direct.{Direct}
+use Rattle.cosim_model.specs.Packets.{IsWritable, Packet}
 use Rattle.cos_parts.specs.declared.any_device.AnyDevice.{AnyDevice}
 use Rattle.cos_parts.specs.declared.any_master.AnyMaster.{AnyMaster}
 use Rattle.cos_parts.specs.AnyDevices as devices
@@ -15,7 +10,7 @@ use Rattle.ends_model.specs.PortTraffic.{traffic_out}
 use Rattle.ends_model.specs.Traffic.{wire_out}
 use Rattle.ends_model.specs.World.{Side, Fit}
 use Rattle.every_schedule.specs.Counts.{packets_in}
-use Rattle.every_schedule.specs.Schedules.{directly, IsEnd}
+use Rattle.every_schedule.specs.Schedules.{IsEnd}
 use Rattle.every_schedule.specs.Wires.{Wire}
 use Rattle.every_schedule.proofs.Bounded.{packets_written}
 use Rattle.every_schedule.proofs.Headline.{IsSpelled, ran, all_spelled}
@@ -26,7 +21,7 @@ use Rattle.link_lines.specs.declared.lines.LinkCounts.{LinkCounts}
 use Rattle.rp_packet.specs.CodecLaws.{codec-laws}
 use Rattle.rp_packet.specs.Streams.{packet_codec}
 use Rattle.world.specs.Stars.{Ends}
-use Rattle.world.specs.Worlds.{Start, WorldValue}
+use Rattle.world.specs.Worlds.{Start}
 use Rattle.cosim_local.specs.Steps.{direct_at, counts_of, counts_from}
 use Rattle.cosim_local.specs.Traffic.{link_of, links_from, links_of}
 use Rattle.cosim_local.proofs.Places.{drop-at}

@@ -1,6 +1,6 @@
 -- What stands against having what a run begins with.
-use Rattle.std.specs.Prelude.{IfSome, IsSomeAnd, IsSome}
-use Rattle.std.proofs.Common.{ℕ, ◌≡◌, List, [], ◌∷◌, length, refl, ap, sym, ◌∙◌, subst}
+use Rattle.std.specs.Prelude.{IfSome, IsSomeAnd}
+use Rattle.std.proofs.Common.{ℕ, ◌≡◌, List, length, refl, ap, sym, ◌∙◌, subst}
 use Rattle.std.specs.declared.option.Option.{Option}
 use Rattle.std.specs.declared.option.Option.TheVariants.{Some, None}
 use Rattle.std.specs.declared.result.Result.{Result}
@@ -15,17 +15,16 @@ use Rattle.cosim_inputs.specs.Inputs.{trouble, machine_files}
 use Rattle.cosim_inputs.specs.Reads.{AreLacking}
 use Rattle.outcomes.specs.declared.failures.ReadFault.{ReadFault}
 use Rattle.outcomes.specs.declared.failures.ReadFault.TheVariants.{Refused, Failed, NoMemory}
-use Rattle.outcomes.specs.Outcomes.{Outcome, Lacks, Refuses, Works}
+use Rattle.outcomes.specs.Outcomes.{Outcome, Lacks}
 use Rattle.outcomes.specs.Seen.{Seen}
-use Rattle.outcomes.specs.Steps.{IsStanding, IsRead, ComesUnread, ComesLacking}
-use Rattle.outcomes.proofs.After.{both, joined-told, stand-after-of, stands-after, blamed-after}
+use Rattle.outcomes.specs.Steps.{IsStanding, IsRead, ComesLacking}
+use Rattle.outcomes.proofs.After.{joined-told}
 use Rattle.cosim_local.specs.declared.order.Order.{Order}
 use Rattle.cosim_local.specs.declared.refusal.LocalRefusal.{LocalRefusal}
-use Rattle.cosim_local.specs.declared.refusal.LocalRefusal.TheVariants.{Inputs}
-use Rattle.cosim_local.specs.Ordering.{SpellsSteps, Ordered, schedule_of, OrdersBy, OrdersList, Orders}
+use Rattle.cosim_local.specs.Ordering.{SpellsSteps, schedule_of, OrdersBy, OrdersList, Orders}
 use Rattle.cosim_local.specs.Locals.{or_stands, judged_to, found_to, found, FoundTo, LocalComes}
 use Rattle.cosim_local.specs.declared.parts.Parts.{Parts}
-use Rattle.cosim_local.specs.Steps.{ArePartsOf, StandsAgainst, OrderStands, inputs_fault}
+use Rattle.cosim_local.specs.Steps.{ArePartsOf, StandsAgainst, OrderStands}
 
 -- Of the configuration and its machine.
 
@@ -81,28 +80,6 @@ pub are-found : (old : Option Store) (name : List ℕ) (p : Parts) → IfSome ol
 are-found None name p are = tt
 are-found (Some m) name p are = are.config
 
--- what stands against the machine is what the command comes to
-pub parts-stand : (old : Option Store) (name : List ℕ) (order : Order) (r : InputsRefusal)
-    → StandsAgainst old name (Refuses r []) → LocalComes old name order (Refuses (Inputs r) [])
-parts-stand None name order r stands = tt
-parts-stand (Some m) name order r stands = subst (λ x. FoundTo m order x (Refuses (Inputs r) [])) (sym stands) refl
-
-pub parts-unread : (f : Seen Store) (name : List ℕ) (order : Order) (fault : ReadFault InputsRefusal)
-    → ComesUnread (StandsAgainst f.old name) f fault → ComesUnread (LocalComes f.old name order) f (inputs_fault fault)
-parts-unread f name order (Refused r) unread = (unread.0, parts-stand f.old name order r unread.1)
-parts-unread f name order (Failed n) unread = unread
-parts-unread f name order NoMemory unread = unread
-
-pub parts-lack : (old : Option Store) (name : List ℕ) (order : Order) (fault : ReadFault InputsRefusal)
-    → ComesLacking (StandsAgainst old name) fault → ComesLacking (LocalComes old name order) (inputs_fault fault)
-parts-lack old name order (Refused r) lacks = tt
-parts-lack old name order NoMemory lacks = tt
-parts-lack old name order (Failed n) lacks = (lacks.0, by old lacks.1)
-  where
-    by : (old : Option Store) → StandsAgainst old name (Lacks lacks.0) → LocalComes old name order (Lacks lacks.0)
-    by None is = tt
-    by (Some m) is = subst (λ x. FoundTo m order x (Lacks lacks.0)) (sym is) refl
-
 -- what stands against the schedule of a machine that is had is what the command comes to
 pub order-stands : (old mid : Option Store) (name : List ℕ) (order : Order) (c : Settings) (ports : ℕ)
     (o : Outcome LocalRefusal) → ports ≡ length c.ports → IfSome old (λ m. found m name ≡ Ok c)
@@ -112,21 +89,6 @@ order-stands (Some m) mid name order c ports o same is told stands =
     let orders : Orders ports order m (Err o) = subst (λ x. OrderStands x (Orders ports order) o) told stands in
     subst (λ x. FoundTo m order x o) (sym is)
     (Err o, subst (λ n. Orders n order m (Err o)) same orders, refl)
-
-pub order-unread : (f g : Seen Store) (name : List ℕ) (order : Order) (c : Settings) (ports : ℕ)
-    (fault : ReadFault LocalRefusal) → ports ≡ length c.ports → IsStanding f → IfSome f.old (λ m. found m name ≡ Ok c)
-    → g.before ≡ f.now → g.old ≡ f.new → ComesUnread (OrderStands g.old (Orders ports order)) g fault
-    → ComesUnread (LocalComes f.old name order) (both f g) fault
-order-unread f g name order c ports (Refused r) count stands is joined same unread = (
-  stands-after f g stands joined same unread.0,
-  order-stands f.old g.old name order c ports (Refuses r []) count is (joined-told f g stands same) unread.1,
-)
-order-unread f g name order c ports (Failed n) count stands is joined same unread = (
-  blamed-after f.before g.before g.now n (joined ∙ stands.count) unread.0,
-  stand-after-of f.old g.old g.new (joined-told f g stands same) unread.1,
-)
-order-unread f g name order c ports NoMemory count stands is joined same unread =
-    (unread.0 ∙ joined ∙ stands.count, stand-after-of f.old g.old g.new (joined-told f g stands same) unread.1)
 
 pub order-lacks : (f g : Seen Store) (name : List ℕ) (order : Order) (c : Settings) (ports : ℕ)
     (fault : ReadFault LocalRefusal) → ports ≡ length c.ports → IsStanding f → IfSome f.old (λ m. found m name ≡ Ok c)

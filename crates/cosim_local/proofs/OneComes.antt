@@ -1,6 +1,6 @@
 -- The command comes to one outcome.
 use Rattle.std.specs.Prelude.{IsSome}
-use Rattle.std.proofs.Common.{ℕ, zero, suc, ◌≡◌, ◌≤◌, ◌^◌, ◌+◌, ◌⊎◌, inl, inr, Bool, true, false, List, [], ◌∷◌, ◌++◌, length, refl, ap, sym, ◌∙◌, subst, arith}
+use Rattle.std.proofs.Common.{ℕ, suc, ◌≡◌, ◌≤◌, ◌^◌, ◌+◌, inl, inr, Bool, true, false, List, [], ◌∷◌, ◌++◌, length, refl, ap, sym, ◌∙◌, subst, arith}
 use Rattle.std.specs.declared.option.Option.{Option}
 use Rattle.std.specs.declared.option.Option.TheVariants.{Some, None}
 use Rattle.std.specs.declared.result.Result.{Result}
@@ -15,7 +15,6 @@ use Rattle.cos_config.specs.Rules.{config_found}
 use Rattle.cos_config.specs.Settings.{config_of}
 use Rattle.cos_parts.specs.AnyDevices as devices
 use Rattle.cos_parts.specs.AnyMasters as masters
-use Rattle.cos_schedules.specs.declared.schedule.Schedule.{Schedule as Scheduled}
 use Rattle.cos_schedules.specs.declared.step.Step.{Step}
 use Rattle.cos_schedules.specs.Texts.{AllSpell, Spells, IsFirstBad}
 use Rattle.cos_schedules.proofs.Texts.{one-list}

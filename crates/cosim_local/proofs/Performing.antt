@@ -1,10 +1,9 @@
 -- How the steps of `local` make up its promise, where its results are written.
 use Rattle.std.specs.Prelude.{IfSome}
-use Rattle.std.proofs.Common.{ℕ, ◌≡◌, List, [], ◌∷◌, ◌++◌, map, refl, ap, sym, ◌∙◌, subst, inr}
+use Rattle.std.proofs.Common.{ℕ, ◌≡◌, List, [], ◌++◌, ap, sym, inr}
 use Rattle.std.proofs.lemmas.List.{append-nil}
 use Rattle.std.specs.declared.option.Option.{Option}
 use Rattle.std.specs.declared.option.Option.TheVariants.{Some, None}
-use Rattle.std.specs.declared.result.Result.{Result}
 use Rattle.std.specs.declared.result.Result.TheVariants.{Ok, Err}
 use Rattle.cos_base.specs.Stores.{Store}
 use Rattle.cosim_inputs.proofs.Asking.{all-told, some-told}

@@ -1,8 +1,8 @@
 -- The ends that a world of a configuration's machine begins with.
-use Rattle.std.proofs.Common.{◌≡◌, ℕ, zero, suc, ◌<◌, All, List, [], ◌∷◌, length, map, refl, sym, ap, ap₂, ◌∙◌, subst, arith}
+use Rattle.std.proofs.Common.{◌≡◌, zero, suc, All, List, [], ◌∷◌, map, refl, sym, ap, ◌∙◌, subst, arith}
 use Rattle.cos_config.specs.declared.config.PortConfig.{PortConfig}
 use Rattle.cos_parts.specs.declared.any_device.AnyDevice.{AnyDevice}
-use Rattle.cosim_ends.specs.Sides.{port_side, sides_of, end_of}
+use Rattle.cosim_ends.specs.Sides.{sides_of, end_of}
 use Rattle.device_turns.specs.Ends.{End}
 use Rattle.ends_model.specs.World.{Side}
 use Rattle.world.specs.Worlds.{IsStart, side_of}

@@ -2,7 +2,7 @@
 use Rattle.std.specs.Prelude.{if◌then◌else◌}
 use Rattle.std.specs.Str.{bytes_eq}
 use Rattle.std.proofs.Common.{ℕ, ◌≡◌, ◌+◌, ◌<◌, List, [], ◌∷◌, ◌++◌, length, drop, get_or, slice_get, map, IfSome, IsSomeAnd, IsSome, refl, ap, ap₂, sym, ◌∙◌, subst, append_assoc}
-use Rattle.std.proofs.lemmas.List.{append-nil, map-append, drop_more}
+use Rattle.std.proofs.lemmas.List.{map-append, drop_more}
 use Rattle.std.specs.declared.option.Option.{Option}
 use Rattle.std.specs.declared.option.Option.TheVariants.{Some, None}
 use Rattle.std.specs.declared.result.Result.{Result}
@@ -10,13 +10,13 @@ use Rattle.std.specs.declared.result.Result.TheVariants.{Ok, Err}
 use Rattle.cos_base.specs.Stores.{Store}
 use Rattle.outcomes.specs.declared.failures.FilesFailure.{FilesFailure}
 use Rattle.outcomes.specs.declared.failures.FilesFailure.TheVariants as files
-use Rattle.outcomes.specs.Outcomes.{Written, with_file, with_files, StopsAt, Hold, HoldBut, HoldSome}
-use Rattle.outcomes.specs.Seen.{Seen, IsUntouched}
+use Rattle.outcomes.specs.Outcomes.{Written, with_file, with_files, StopsAt}
+use Rattle.outcomes.specs.Seen.{Seen}
 use Rattle.outcomes.specs.Steps.{IsStanding, IsWritten}
 use Rattle.outcomes.proofs.After.{both, blamed-after}
 use Rattle.outcomes.proofs.Commands.{untouched-stands}
-use Rattle.outcomes.specs.Asked.{Asking, AsksNone, AsksAll, Begins, AsksSome}
-use Rattle.outcomes.proofs.Asking.{both_asked, none-all}
+use Rattle.outcomes.specs.Asked.{Asking, AsksAll, Begins, AsksSome}
+use Rattle.outcomes.proofs.Asking.{both_asked}
 use Rattle.outcomes.proofs.Writing.{AreWritten, nothing-written, one-more-written, hold-failed, hold-unwritten}
 use Rattle.cos_config.specs.declared.config.PortConfig.{PortConfig}
 use Rattle.cos_parts.specs.declared.any_device.AnyDevice.{AnyDevice}
@@ -200,16 +200,6 @@ pub record HasWritten (whole left : List Written) (f : Seen Store) (a : Asking) 
   pub are : AreWritten f done
   pub asked : AsksAll a (λ m. names_of done)
   pub sound : S → T
-
-pub has-none : (whole : List Written) (f : Seen Store) (a : Asking) (S : Type 0) → IsUntouched f → AsksNone a
-    → HasWritten whole whole f a S S
-has-none whole f a S same none = record {
-  done = [];
-  whole_is = refl;
-  are = nothing-written f (untouched-stands f same);
-  asked = none-all a none;
-  sound = λ s. s;
-}
 
 still-told : (f g : Seen Store) (a b : Asking) (done : List Written) → AreWritten f done → f.old ≡ a.held → g.old ≡ f.new
     → b.held ≡ g.old → IfSome a.held (λ m. IsSome b.held)

@@ -1,10 +1,9 @@
 -- What the command `local` comes to, by its configuration, the files that this names, and the order of its steps.
-use Rattle.std.specs.Prelude.{◌≡◌, ℕ, List, [], ◌∷◌, ◌++◌, length, map, Result, Ok, Err}
+use Rattle.std.specs.Prelude.{◌≡◌, ℕ, List, [], ◌++◌, length, map, Result, Ok, Err}
 use Rattle.std.specs.declared.option.Option.{Option}
 use Rattle.std.specs.declared.option.Option.TheVariants.{Some, None}
 use Rattle.cos_base.specs.Stores.{Store}
 use Rattle.cos_config.specs.declared.config.Config.{Config as Settings}
-use Rattle.cos_config.specs.declared.config.PortConfig.{PortConfig}
 use Rattle.cos_config.specs.declared.config.Sockets.TheVariants.{Unneeded}
 use Rattle.cos_config.specs.declared.fault.ConfigFault.{ConfigFault}
 use Rattle.cos_config.specs.Plans.{plan_of}
@@ -20,7 +19,6 @@ use Rattle.cosim_inputs.specs.declared.refusals.InputsRefusal.TheVariants.{Confi
 use Rattle.cosim_inputs.specs.Fresh.{master_of, devices_of}
 use Rattle.cosim_inputs.specs.Inputs.{trouble, machine_files}
 use Rattle.cosim_inputs.specs.Judging.{judged}
-use Rattle.cosim_model.specs.Direct.{Direct}
 use Rattle.link_lines.specs.LinkLines.{traffic_text}
 use Rattle.outcomes.specs.Outcomes.{Outcome, Written, Lacks, Refuses, Works}
 use Rattle.run_texts.specs.Texts.{run_lines}

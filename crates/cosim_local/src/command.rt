@@ -68,13 +68,13 @@ fn put_finished<K: Sink>(finished: Finished, out: &mut K) -> Result<(), OutFailu
     }
 }
 
-/// Runs the machine of a configuration as ends that exchange packets, in one process, and prints the lines that `direct` prints, a
-/// line for each link and one for the effective steps. The sectors of disks are written before.
+/// Runs the machine of a configuration as ends that exchange packets, in one process, and prints the lines that `direct`
+/// prints, a line for each link and one for the effective steps. The sectors of disks are written before.
 ///
-/// The configuration is read and judged, then the files that it names, in this order: image, script, and the UART inputs and disk
-/// images by port, each read and then judged; then the file of steps, where the order names one. Behind the run the sectors of each
-/// disk are written to the file that its port names for them, by port. All memory is taken before anything is written or printed, but
-/// for what writing a file takes.
+/// The configuration is read and judged, then the files that it names, in this order: image, script, and the UART inputs
+/// and disk images by port, each read and then judged; then the file of steps, where the order names one. Behind the run
+/// the sectors of each disk are written to the file that its port names for them, by port. All memory is taken before
+/// anything is written or printed, but for what writing a file takes.
 pub fn local<F: Files, K: Sink>(
     alloc: Global,
     name: &str,
@@ -85,7 +85,8 @@ pub fn local<F: Files, K: Sink>(
     ensures performs { Performs (LocalComes (F.told files.old) name.now order.entry)
         (seen F.count F.told files.old files.new) (seen K.count K.told out.old out.new)
         (F.sound files.old × K.sound out.old) (K.room out.old) result }
-    // It asks for the files that it reads and then for those that it writes, each once, up to the first that something stands against.
+    // It asks for the files that it reads and then for those that it writes, each once, up to the first that something
+    // stands against.
     ensures asks { AsksFor (local_names name.now order.entry) (result_names name.now)
         (asking F.told F.asked files.old files.new) result }
 {

@@ -155,7 +155,8 @@ fn run_world(
     requires fit { Fit any_masters.any_model any_devices.any_model plan machine.master
         (sides_of ports.now machine.devices.items) }
     ensures ends { IfOk result (λ w. EndsAfter any_masters.any_model any_devices.any_model schedule.now
-        (record { plan = plan; master = machine.master; ports = sides_of ports.now machine.devices.items }) w.effective) }
+        (record { plan = plan; master = machine.master; ports = sides_of ports.now machine.devices.items })
+        w.effective) }
     ensures start { IfOk result (λ w. w.start ≡
         record { plan = plan; master = machine.master; ports = sides_of ports.now machine.devices.items }) }
     ensures over { IfOk result (IsOver any_masters.any_model any_devices.any_model) }

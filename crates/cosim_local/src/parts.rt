@@ -140,7 +140,8 @@ fn inputs_fault(fault: ReadFault<InputsRefusal>) -> ReadFault<LocalRefusal>
     }
 }
 
-/// Reads what a run begins with: the configuration, the files that it names, and then the file of steps, where the order names one.
+/// Reads what a run begins with: the configuration, the files that it names, and then the file of steps, where the
+/// order names one.
 pub fn read_planned<F: Files>(
     alloc: Global,
     name: &str,

@@ -1,5 +1,5 @@
 use Rattle.std.proofs.Common.{refl}
-use Rattle.outcomes.specs.Asked.{asking, AsksUpTo}
+use Rattle.outcomes.specs.Asked.{asking}
 use Rattle.outcomes.specs.Seen.{seen}
 use Rattle.outcomes.proofs.After.{joined-told}
 use Rattle.cosim_local.proofs.Having.{order-lacks, are-found}

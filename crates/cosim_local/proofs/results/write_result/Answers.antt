@@ -1,4 +1,4 @@
-use Rattle.std.proofs.Common.{sym, subst}
+use Rattle.std.proofs.Common.{subst}
 use Rattle.outcomes.specs.Outcomes.{Written}
 use Rattle.outcomes.specs.Seen.{seen}
 use Rattle.outcomes.specs.Steps.{IsWritten}
