@@ -67,8 +67,7 @@ returns-in-Direct g c =
 
 pub returns-in-Local : goal.returns-in-Local
 returns-in-Local g c =
-    rw c.in-Local.is
-    (
+    rw c.in-Local.is (
       c.order_of.result,
       c.order_of.ensures,
       record {
