@@ -44,7 +44,7 @@ use Rattle.end_machine.proofs.LinkLaws.{told-set, told-there}
 use Rattle.end_machine.proofs.WireLaws.{all-set, read-grows, read-said, read-sent, sent-grows, sent-received}
 use Rattle.end_machine.proofs.WireLaws.{sent-said, set-self, tell-at, tell-set, tell-size, there-some}
 
-parts-of : {M : Type 0} (e : End M) (h : Taking M) → core_of e ≡ h.core → HasParts e.clear h
+pub parts-of : {M : Type 0} (e : End M) (h : Taking M) → core_of e ≡ h.core → HasParts e.clear h
 parts-of e h core = (ap (λ c. c.master) core, ap (λ c. c.calls) core, ap (λ c. c.tick) core)
 
 -- what a wire says is what is said on its port

@@ -7,3 +7,4 @@ mod StepLaws
 mod DriveLaws
 mod RunLaws
 mod HonestLaws
+mod Standing

@@ -11,6 +11,7 @@ use Rattle.cosim_model.specs.declared.session.EndFault.{EndFault}
 use Rattle.cosim_model.specs.declared.session.EndFault.TheVariants as fault
 use Rattle.cosim_model.specs.declared.values.Plan.{Plan}
 use Rattle.cosim_model.specs.Parts.{DeviceModel, MasterModel}
+use Rattle.ends_model.specs.declared.ends.Phase.TheVariants.{Done}
 use Rattle.ends_model.specs.MachineTurn.{MachineEnd}
 use Rattle.ends_model.specs.World.{Fit, Side, machine_start}
 use Rattle.every_schedule.specs.Schedules.{IsHonest, directly}
@@ -123,6 +124,17 @@ abbrev pub kept_by : {A : Type 0} → Result A TurnFault → Option PortFault
 kept_by (Ok a) = None
 kept_by (Err turn_fault.NoMemory) = None
 kept_by (Err (turn_fault.Port f)) = Some f
+
+-- Whatever the links tell: over some received bytes a run of the end comes to its end, and leaves its parts.
+pub record HasFinished {M : Type 0} (k : MasterModel M) (start : MachineEnd M Cause) (ports : ℕ)
+    (e : MachineEnd M Cause) : Type 0 where
+  pub received : Streams
+  pub turns : ℕ
+  pub hub : Taking M
+  pub sent : Streams
+  pub run : IsRun k start ports received turns hub sent
+  pub done : hub.core.phase ≡ Done
+  pub parts : HasParts e hub
 
 -- The master, the calls and the ticks are those of the direct machine of every_schedule.
 pub record IsDirect {M S : Type 0} (k : MasterModel M) (d : DeviceModel S) (plan : Plan) (m : M)

@@ -2,6 +2,7 @@
 use Rattle.std.specs.Prelude.{◌≡◌, ℕ, ◌≤◌, List, [], ◌++◌, length, Option, Some, None, Result, Ok, Err}
 use Rattle.std.specs.Prelude.{set, slice_get}
 use Rattle.byte_streams.specs.Prefixes.{IsPrefix}
+use Rattle.process_network.specs.Network.{Streams}
 use Rattle.process_network.specs.TellingLinks.{IsTelling}
 use Rattle.cos_base.specs.Links.{Wire}
 use Rattle.cosim_model.specs.declared.session.EndFault.{EndFault}
@@ -98,6 +99,14 @@ FinishesBy e p (fault.Ended taken) = (held_at e p ≡ []) × (taken ≡ taken_at
 FinishesBy e p (fault.Truncated start held) =
     (start ≡ taken_at e p) × (held ≡ length (held_at e p)) × (1 ≤ held)
 FinishesBy e p f = ⊥
+
+-- Whatever the links tell: the end stands within a run of the definitions, over some received bytes.
+abbrev pub InRun : {M : Type 0} → MasterModel M → MachineEnd M Cause → ℕ → End M → Type 0
+InRun k start ports e = (received : Streams) × (sent : Streams) × HasRun k start ports received sent e
+
+-- and stays within it
+abbrev pub KeepsRun : {M : Type 0} → MasterModel M → End M → End M → Type 0
+KeepsRun {M} k old new = (start : MachineEnd M Cause) (ports : ℕ) → InRun k start ports old → InRun k start ports new
 
 -- the call took local units, and then a turn that answered this
 abbrev pub Turned : {M : Type 0} → MasterModel M → End M → End M → Turn → Type 0

@@ -1,10 +1,10 @@
 // A machine end over its links.
-ghost use Rattle.std.specs.Prelude.{◌≡◌, ◌<◌, All, IfOk, None, Ok, length, map};
+ghost use Rattle.std.specs.Prelude.{◌≡◌, ◌<◌, All, IfOk, None, Ok, OnOk, length, map};
 ghost use Rattle.machine_turns.specs.Ends.{IsWaiting, SendsAll};
 ghost use Rattle.end_machine.specs.Wires.{said_on};
 ghost use Rattle.end_machine.specs.Talk.{ByTalk};
-ghost use Rattle.end_machine.specs.Driving.{AllFresh, DriveCounts, DrivesDirectly, IsFreshEnd, Leaves, NotLink, WhereTold, kept_by};
-ghost use Rattle.end_machine.specs.Going.{Fed, FinishesBy, KeepsGoing, KeepsReading, KeptInRun, OnlyLink, SendsOn, Turned};
+ghost use Rattle.end_machine.specs.Driving.{AllFresh, DriveCounts, DrivesDirectly, HasFinished, IsFreshEnd, Leaves, NotLink, WhereTold, kept_by};
+ghost use Rattle.end_machine.specs.Going.{Fed, FinishesBy, KeepsGoing, KeepsReading, KeepsRun, KeptInRun, OnlyLink, SendsOn, Turned};
 ghost use Rattle.end_machine.specs.Going.{need_of, port_of};
 
 use cos_api::{Device, Master};
@@ -75,6 +75,7 @@ fn step<M: Master, L: Link>(
     ensures kept { KeptInRun result end.new.kept }
     ensures turned { IfOk result (λ t. Turned M.model end.old end.new t) }
     ensures rests { IfOk result (λ t. SendsAll M.model (Ok t) end.new) }
+    ensures runs { OnOk result (KeepsRun M.model end.old end.new) }
     ensures counts { DriveCounts (map L.count links.old) (map L.count links.new) result }
     ensures is_sound { All L.sound links.old → All L.sound links.new × NotLink result }
     ensures goes { KeepsGoing M.model (length links.old) end.old end.new (map L.told links.old) (map L.told links.new) result }
@@ -145,6 +146,7 @@ fn run<M: Master, L: Link>(
     ensures kept { KeptInRun result end.new.kept }
     ensures counts { DriveCounts (map L.count links.old) (map L.count links.new) result }
     ensures is_sound { All L.sound links.old → All L.sound links.new × NotLink result }
+    ensures ran { OnOk result (HasFinished M.model end.old.clear (length links.old) end.new.clear) }
     ensures leaves { WhereTold (map L.told links.old)
         (λ ws. Leaves M.model end.old.clear (said_on ws) end.new.clear result (map L.told links.new)) }
 {
@@ -183,6 +185,7 @@ pub fn drive<M: Master, D: Device, L: Link>(
     ensures counts { DriveCounts (map L.count links.old) (map L.count links.new) result }
     ensures is_sound { All L.sound links.old → All L.sound links.new × NotLink result }
     ensures keeps { end.new.kept ≡ kept_by result }
+    ensures ran { OnOk result (HasFinished M.model end.old.clear (length links.old) end.new.clear) }
     ensures leaves { WhereTold (map L.told links.old)
         (λ ws. Leaves M.model end.old.clear (said_on ws) end.new.clear result (map L.told links.new)) }
     ensures talk { WhereTold (map L.told links.old)

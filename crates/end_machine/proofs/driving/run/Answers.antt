@@ -6,11 +6,12 @@ use Rattle.ends_model.specs.declared.ends.Turn.{Turn}
 use Rattle.ends_model.specs.World.{machine_start}
 use Rattle.rp_packet.specs.declared.fault.Cause.{Cause}
 use Rattle.machine_turns.specs.declared.fault.TurnFault.TheVariants as turn_fault
-use Rattle.end_machine.specs.Driving.{Leaves}
+use Rattle.end_machine.specs.Driving.{HasFinished, Leaves}
 use Rattle.end_machine.specs.Going.{ReadsOn}
 use Rattle.end_machine.specs.Wires.{said_on}
 use Rattle.end_machine.proofs.RunLaws.{counts-stay, ends-leaves, fresh-holds, fresh-size, going-fresh, read-holds}
 use Rattle.end_machine.proofs.RunLaws.{read-on-goes, size-stays, step-goes, step-there, stops-leaves, wires-at}
+use Rattle.end_machine.proofs.Standing.{done-run, fresh-run, read-run}
 use Rattle.end_machine.proofs.StepLaws.{step-moves, step-waits}
 use Rattle.end_machine.proofs.driving.run.Goals as goal
 
@@ -24,6 +25,8 @@ turns-init g c = record {
       c.args.links.now) c.args.end.now c.requires.fresh;
   counts = refl;
   is_sound = λ s. s;
+  runs = fresh-run g.M.Master.model c.args.end.now.clear.master (length c.args.links.now)
+      c.args.end.now.clear.plan c.args.end.now c.requires.fresh;
   goes = λ ws tell. going-fresh g.M.Master.model c.args.end.now.clear.plan c.args.end.now.clear.master (length
       c.args.links.now) c.args.end.now (map g.L.Link.told c.args.links.now) ws
       c.requires.fresh (sym (length-map c.args.links.now g.L.Link.told)) c.requires.unused
@@ -46,6 +49,7 @@ turns-preserved-in-Turn g c = record {
   counts = counts-stay (map g.L.Link.count c.turns.links) (map g.L.Link.count c.step.new.links) c.in-Ok.turn
       c.in-Ok.ensures.counts ∙ c.turns.invariant.counts;
   is_sound = λ s. (c.in-Ok.ensures.is_sound (c.turns.invariant.is_sound s)).0;
+  runs = c.in-Ok.ensures.runs _ _ c.turns.invariant.runs;
   goes = λ ws tell.
       step-goes g.M.Master.model c.args.end.now.clear.plan c.args.end.now.clear.master (length c.args.links.now)
       (length c.turns.links) (said_on ws) c.turns.end c.step.new.end
@@ -93,6 +97,9 @@ turns-preserved g c = record {
       ∙ counts-stay (map g.L.Link.count c.turns.links) (map g.L.Link.count c.step.new.links) c.in-Ok.turn
       c.in-Ok.ensures.counts ∙ c.turns.invariant.counts;
   is_sound = λ s. (c.in-Ok-More.ensures.is_sound (c.in-Ok.ensures.is_sound (c.turns.invariant.is_sound s)).0).0;
+  runs = read-run g.M.Master.model c.in-Bytes.port c.step.new.end c.read_on.new.end c.in-Ok-More.field-0
+      c.in-Ok-More.field-0-is c.in-Ok.ensures.kept c.in-Ok-More.ensures.fed _ _
+      (c.in-Ok.ensures.runs _ _ c.turns.invariant.runs);
   goes = λ ws tell.
       subst (λ r. ReadsOn g.M.Master.model (machine_start Cause c.args.end.now.clear.master (length c.args.links.now)
       c.args.end.now.clear.plan) (said_on ws) c.in-Bytes.port
@@ -161,6 +168,14 @@ returns-in-Nothing-clause-leaves g c = λ ws tell.
     (length c.turns.links) (said_on ws) c.turns.end c.step.new.end
     (map g.L.Link.told c.turns.links) (map g.L.Link.told c.step.new.links) (Ok c.in-Ok.turn) c.turns.invariant.size
     c.in-Ok.ensures.goes (c.turns.invariant.goes ws tell)))
+
+pub returns-in-Nothing-clause-ran : goal.returns-in-Nothing-clause-ran
+returns-in-Nothing-clause-ran g c =
+    subst (λ s. HasFinished g.M.Master.model s (length c.args.links.now) c.step.new.end.clear)
+    (sym (ap (λ e. e.clear) c.requires.fresh))
+    (done-run g.M.Master.model _ (length c.args.links.now) c.turns.end c.step.new.end c.in-Ok.turn
+    (sym c.need_after.ensures ∙ c.in-Nothing.is) c.in-Ok.ensures.turned
+    (c.in-Ok.ensures.runs _ _ c.turns.invariant.runs))
 
 pub returns-in-Err-clause-leaves : goal.returns-in-Err-clause-leaves
 returns-in-Err-clause-leaves g c = λ ws tell.

@@ -5,7 +5,7 @@ use Rattle.ends_model.specs.World.{machine_start}
 use Rattle.rp_packet.specs.declared.fault.Cause.{Cause}
 use Rattle.machine_turns.specs.Ends.{core_of}
 use Rattle.end_machine.specs.Wires.{AllTell, said_on}
-use Rattle.end_machine.specs.Going.{Going}
+use Rattle.end_machine.specs.Going.{Going, InRun}
 use Rattle.end_machine.proofs.Measures.{Holds}
 use Rattle.end_machine.proofs.StepLaws.{remaining}
 use Rattle.end_machine.proofs.driving.run.Given as goal
@@ -18,6 +18,9 @@ invariant-turns g l = record {
   holds : Holds g.M.Master.model l.fn.end.clear.plan (length l.fn.links) (core_of l.end);
   counts : map g.L.Link.count l.links ≡ map g.L.Link.count l.fn.links;
   is_sound : All g.L.Link.sound l.fn.links → All g.L.Link.sound l.links;
+  runs :
+      InRun g.M.Master.model (machine_start Cause l.fn.end.clear.master (length l.fn.links) l.fn.end.clear.plan)
+      (length l.fn.links) l.end;
   goes :
       (ws : List Wire) → AllTell (map g.L.Link.told l.fn.links) ws
       → Going g.M.Master.model (machine_start Cause l.fn.end.clear.master (length l.fn.links) l.fn.end.clear.plan)

@@ -2,6 +2,7 @@ use Rattle.std.proofs.Common.{◌∙◌, ap, drop, length, List, sym, ℕ}
 use Rattle.std.specs.Prelude.{map}
 use Rattle.std.proofs.lemmas.List.{length-map}
 use Rattle.end_machine.proofs.GoingLaws.{turn-fails, turn-part, turn-quiet, turn-sent}
+use Rattle.end_machine.proofs.Standing.{goes-run}
 use Rattle.end_machine.proofs.StepLaws.{step-kept}
 use Rattle.end_machine.proofs.driving.step.Goals as goal
 
@@ -42,3 +43,13 @@ returns-in-None-clause-goes g c = λ m plan said going.
     turn-quiet g.M.Master.model _ said c.args.end.now c.advance.new.self c.clear.new.self.bytes c.advance.new.out.bytes _
     c.in-Ok.turn
     (sym c.sent_port.ensures ∙ c.in-None.is) c.in-Ok.ensures.runs going
+
+pub returns-in-Ok-send_on-clause-runs : goal.returns-in-Ok-send_on-clause-runs
+returns-in-Ok-send_on-clause-runs g c =
+    goes-run g.M.Master.model c.args.end.now c.advance.new.self c.clear.new.self.bytes c.advance.new.out.bytes
+    c.in-Ok.turn c.in-Ok.ensures.runs
+
+pub returns-in-None-clause-runs : goal.returns-in-None-clause-runs
+returns-in-None-clause-runs g c =
+    goes-run g.M.Master.model c.args.end.now c.advance.new.self c.clear.new.self.bytes c.advance.new.out.bytes
+    c.in-Ok.turn c.in-Ok.ensures.runs
