@@ -1,2 +1,3 @@
 mod Having
 mod Naming
+mod Sides

@@ -87,7 +87,7 @@ module _ {L : Type 0} (view : NetView L) (p : Parts) (net : Seen (Coming L)) (ch
   Converses (Err (Outside object.Net n)) = IsBlamed net n × CountStands children
   Converses (Err (Outside object.Spawner n)) = CountStands net × IsBlamed children n
   Converses (Err (Outside (object.Link port) n)) =
-      IsAll p to × (l : L) × (slice_get to.links port ≡ Some l) × Rose (view.count l) n
+      IsAll p to × ((l : L) → slice_get to.links port ≡ Some l → Rose (view.count l) n)
       × CountStands net × CountStands children
   Converses (Err (Outside object.Files n)) = ⊥
   Converses (Err (Outside object.Out n)) = ⊥
@@ -139,5 +139,4 @@ pub record IsConversation {L : Type 0} (program config : List ℕ) (view : NetVi
   pub few : length to.links ≤ length numbers
   pub gives : IfSome net.old (λ old. IfSome net.new (λ new. HasGiven to.named to.links old new))
   pub starts : IfSome children.old (λ old. IfSome children.new (λ new. new ≡ with_all old to.started numbers))
-  pub untold : children.old ≡ None → children.new ≡ None
   pub converses : Converses view p net children to left r

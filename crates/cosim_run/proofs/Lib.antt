@@ -1,0 +1,3 @@
+mod Conversing
+mod Lined
+mod Running

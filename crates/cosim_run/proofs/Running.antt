@@ -1,0 +1,160 @@
+-- The run of a machine with its children: what holds after the waits.
+use Rattle.std.specs.Prelude.{All, IfSome, IsSomeAnd}
+use Rattle.std.proofs.Common.{◌≡◌, ℕ, ◌<◌, ◌≤◌, List, [], ◌∷◌, ◌++◌, length, map, refl, sym, ap, ◌∙◌, subst, arith}
+use Rattle.std.proofs.Common.{Result, Ok, Err}
+use Rattle.std.specs.declared.option.Option.{Option}
+use Rattle.std.specs.declared.option.Option.TheVariants.{Some, None}
+use Rattle.std.proofs.lemmas.List.{length-map}
+use Rattle.cos_base.specs.Links.{Wire}
+use Rattle.cos_base.specs.Networks.{Coming}
+use Rattle.cos_children.specs.Children.{AreChildren, Children}
+use Rattle.cos_config.specs.declared.config.PortConfig.{PortConfig}
+use Rattle.cos_config.specs.Plans.{plan_of}
+use Rattle.cos_parts.specs.declared.any_device.AnyDevice.{AnyDevice}
+use Rattle.cos_parts.specs.declared.any_master.AnyMaster.{AnyMaster}
+use Rattle.cos_parts.specs.AnyDevices as devices
+use Rattle.cos_parts.specs.AnyMasters as masters
+use Rattle.configured_machine.specs.declared.parts.Parts.{Parts}
+use Rattle.configured_machine.specs.Configured.{MayRun}
+use Rattle.configured_machine.proofs.Sides.{sides-devices, sides-each}
+use Rattle.cosim_ends.specs.Sides.{sides_of}
+use Rattle.cosim_model.specs.Direct.{Direct, direct}
+use Rattle.cosim_serve.specs.Serves.{NetView}
+use Rattle.end_machine.specs.Driving.{IsDirect}
+use Rattle.end_machine.specs.Wires.{AllTell, said_on}
+use Rattle.every_schedule.specs.Schedules.{IsHonest}
+use Rattle.outcomes.specs.declared.object.Object.TheVariants as object
+use Rattle.outcomes.specs.declared.stop.Stop.{Stop}
+use Rattle.outcomes.specs.declared.stop.Stop.TheVariants.{Refused, Outside, NoMemory}
+use Rattle.outcomes.specs.Seen.{Seen, IsUntouched}
+use Rattle.port_children.specs.declared.fault.WaitFault.{WaitFault}
+use Rattle.port_children.specs.declared.fault.WaitFault.TheVariants as wait
+use Rattle.port_children.specs.ChildLaws.{all-run, as-before}
+use Rattle.port_children.specs.Opened.{with_all}
+use Rattle.port_children.specs.Waited.{AllRun, Given, IsWaited, NotSpawner, with_waits}
+use Rattle.rp_packet.specs.Streams.{packet_codec}
+use Rattle.run_texts.specs.Texts.{run_lines}
+use Rattle.cosim_run.specs.declared.refusal.RunRefusal.{RunRefusal}
+use Rattle.cosim_run.specs.Conversations.{Converses, ConversesSoundly, IsConversation, IsDrivenOver, Machine, RunEnded}
+use Rattle.cosim_run.specs.Runs.{EndsAfter, IfDone, PrintsDirectly, WithChildren, lines_of, unended}
+use Rattle.cosim_run.specs.Steps.{StopsBy, StopsSoundly}
+
+-- The lines of an end that was left as the direct machine is.
+lines-same : (left : Machine) (r : Direct AnyMaster AnyDevice) (ports : List PortConfig) → left.master ≡ r.master
+    → left.calls ≡ r.calls → left.tick ≡ r.tick → lines_of left ports ≡ run_lines r ports
+lines-same left r ports master calls tick =
+    ap (λ m. run_lines (record { master = m; devices = []; calls = left.calls; tick = left.tick; history = [] }) ports)
+    master
+    ∙ ap (λ cs. run_lines (record { master = r.master; devices = []; calls = cs; tick = left.tick; history = [] }) ports)
+    calls
+    ∙ ap (λ n. run_lines (record { master = r.master; devices = []; calls = r.calls; tick = n; history = [] }) ports)
+    tick
+
+tell-count : {L : Type 0} (told : L → Option Wire) (links : List L) (ws : List Wire) → AllTell (map told links) ws
+    → length ws ≡ length links
+tell-count told links ws tell =
+    sym (length-map ws _) ∙ sym (ap length tell) ∙ length-map links told
+
+-- It prints what `direct` does over honest links.
+driven-directly : {L : Type 0} (told : L → Option Wire) (p : Parts) (links : List L) (left : Machine) → MayRun p
+    → length links ≡ length p.config.ports → IsDrivenOver told p links left (Ok tt)
+    → PrintsDirectly told p links (lines_of left p.config.ports)
+driven-directly told p links left may size driven ws tell honest =
+    let xs = sides_of p.config.ports p.machine.devices.items in
+    let each = sides-each p.config.ports p.machine.devices.items may.each in
+    let count = tell-count told links ws tell in
+    let is : IsDirect masters.any_model devices.any_model (plan_of p.config) p.machine.master xs left =
+    driven.honest ws tell xs (omega (arith, each, count, size)) may.fit honest in
+    lines-same left
+    (direct masters.any_model devices.any_model (plan_of p.config) p.machine.master (map (λ x. x.1) xs))
+    p.config.ports is.master is.calls is.tick
+    ∙ ap (λ ds. run_lines (direct masters.any_model devices.any_model (plan_of p.config) p.machine.master ds) p.config.ports)
+    (sides-devices p.config.ports p.machine.devices.items may.each)
+
+module _ {L : Type 0} (program config : List ℕ) (view : NetView L) (p : Parts) (net : Seen (Coming L)) where
+  directly-of : (children : Seen Children) (numbers : List ℕ) (left : Machine) (r : RunEnded) → MayRun p
+      → (talks : IsConversation program config view p net children numbers left r)
+      → IfDone r (PrintsDirectly view.told p talks.to.links (lines_of left p.config.ports))
+  directly-of children numbers left (Ok u) may talks =
+      driven-directly view.told p talks.to.links left may talks.converses.0.2 talks.converses.1
+  directly-of children numbers left (Err e) may talks = tt
+
+  -- None of the children runs any more.
+
+  ran-before : (old mid new : Option Children) (started : List (List (List ℕ))) (numbers : List ℕ) (given : List Given)
+      → length numbers ≡ length started → length given ≡ length numbers → IfSome mid AreChildren
+      → IfSome old (λ o. IfSome mid (λ m. m ≡ with_all o started numbers))
+      → IfSome mid (λ m. IfSome new (λ n. n ≡ with_waits m numbers given)) → (mid ≡ None → new ≡ None)
+      → IfSome old (λ o. IfSome new (λ n. n.running ≡ o.running))
+  ran-before None mid new started numbers given each waits are starts ends untold = tt
+  ran-before (Some o) None new started numbers given each waits are starts ends untold =
+      subst (λ n. IfSome n (λ n. n.running ≡ o.running)) (sym (untold refl)) tt
+  ran-before (Some o) (Some m) None started numbers given each waits are starts ends untold = tt
+  ran-before (Some o) (Some m) (Some n) started numbers given each waits are starts ends untold =
+      let as_started = subst AreChildren starts are in
+      ap (λ (c : Children). c.running) (ends ∙ ap (λ c. with_waits c numbers given) starts)
+      ∙ as-before started numbers given o as_started each waits
+
+  pub with-children : (first second : Seen Children) (numbers : List ℕ) (left : Machine) (driven : RunEnded)
+      (waited : Result Unit WaitFault) → MayRun p → second.before ≡ first.now → second.old ≡ first.new
+      → IfSome first.new AreChildren → IsConversation program config view p net first numbers left driven
+      → IsWaited numbers second waited
+      → WithChildren program config view p net
+      (record { before = first.before; now = second.now; old = first.old; new = second.new }) left driven waited
+  with-children first second numbers left driven waited may joined same are talks waits =
+      let ended = subst (λ o. IsWaited numbers (record { before = first.now; now = second.now; old = o; new = second.new }) waited)
+      same (subst (λ n. IsWaited numbers (record { before = n; now = second.now; old = second.old; new = second.new }) waited)
+      joined waits) in
+      record {
+        mid = first.now;
+        middle = first.new;
+        numbers = numbers;
+        talks = talks;
+        waits = ended;
+        running = ran-before first.old first.new second.new talks.to.started numbers ended.given talks.each ended.each
+            are talks.starts ended.waits ended.untold;
+        directly = directly-of first numbers left driven may talks;
+      }
+
+  -- each runs before it is waited for
+  pub children-run : (first : Seen Children) (mid : Option Children) (numbers : List ℕ) (left : Machine)
+      (driven : RunEnded) → mid ≡ first.new → IfSome first.new AreChildren
+      → IsSomeAnd first.old (λ c. Unit {0}) → IsConversation program config view p net first numbers left driven
+      → IfSome mid (AllRun numbers)
+  children-run first mid numbers left driven same are told talks =
+      subst (λ o. IfSome o (AllRun numbers)) (sym same) (by first.old first.new told are talks.starts)
+    where
+      by : (old new : Option Children) → IsSomeAnd old (λ c. Unit {0}) → IfSome new AreChildren
+          → IfSome old (λ o. IfSome new (λ n. n ≡ with_all o talks.to.started numbers)) → IfSome new (AllRun numbers)
+      by None new some are starts = absurd some
+      by (Some o) None some are starts = tt
+      by (Some o) (Some n) some are starts =
+          subst (AllRun numbers) (sym starts)
+          (all-run talks.to.started numbers o (subst AreChildren starts are) talks.each)
+
+  -- What is blamed soundly.
+
+  pub stops-soundly : (children whole : Seen Children) (numbers : List ℕ) (left : Machine) (e : Stop RunRefusal)
+      → (talks : IsConversation program config view p net children numbers left (Err e))
+      → ConversesSoundly view p net children talks.to left (Err e)
+      → StopsSoundly program config view p net whole e
+  stops-soundly children whole numbers left (Refused r) talks soundly = tt
+  stops-soundly children whole numbers left NoMemory talks soundly = tt
+  stops-soundly children whole numbers left (Outside object.Net n) talks soundly = soundly
+  stops-soundly children whole numbers left (Outside object.Spawner n) talks soundly = soundly
+  stops-soundly children whole numbers left (Outside (object.Link port) n) talks soundly = soundly
+  stops-soundly children whole numbers left (Outside object.Files n) talks soundly = talks.converses
+  stops-soundly children whole numbers left (Outside object.Out n) talks soundly = talks.converses
+
+  pub ends-soundly : (whole : Seen Children) (f : WaitFault) → NotSpawner (Err f)
+      → StopsSoundly program config view p net whole (unended f)
+  ends-soundly whole (wait.Status port status) none = tt
+  ends-soundly whole (wait.Spawner n) none = none
+  ends-soundly whole wait.NoMemory none = tt
+
+-- The first fault ends the command.
+pub stops-end : (out : Seen (List ℕ)) (text : List ℕ) (driven : RunEnded) (waited : Result Unit WaitFault) (e : Stop RunRefusal)
+    → StopsBy driven waited e → IsUntouched out → EndsAfter out text driven waited (Err e)
+stops-end out text (Err f) waited e stops same = (ap (λ x. Err x) stops, same)
+stops-end out text (Ok u) (Err f) e stops same = (ap (λ x. Err x) stops, same)
+stops-end out text (Ok u) (Ok w) e stops same = absurd stops
