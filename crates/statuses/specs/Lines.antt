@@ -138,6 +138,11 @@ outside_line object.Net count = line_one (codes "cosim: outside: net ") count
 outside_line (object.Link port) count = line_two (codes "cosim: outside: link p") port count
 outside_line object.Spawner count = line_one (codes "cosim: outside: spawner ") count
 
+-- the line of a child that ended with another status than 0
+abbrev pub child_line : ℕ → ℕ → List ℕ
+child_line port s =
+    concat (codes "cosim: child p" ∷ decimal port ∷ codes " status " ∷ decimal s ∷ codes "\n" ∷ [])
+
 -- the line of a status; where all was done there is none
 abbrev pub line_of : Status → List ℕ
 line_of status.Done = []
@@ -147,6 +152,7 @@ line_of (status.Input f) = input_line f
 line_of (status.Peer port f) = peer_line port f
 line_of (status.Outside o count) = outside_line o count
 line_of status.NoMemory = codes "cosim: no memory\n"
+line_of (status.Child port s) = child_line port s
 
 -- The line of the status was put; where all was done nothing was.
 abbrev pub TellsStatus : Seen (List ℕ) → Status → Type 0
@@ -157,3 +163,4 @@ TellsStatus k (status.Input f) = IsPut k (line_of (status.Input f))
 TellsStatus k (status.Peer port f) = IsPut k (line_of (status.Peer port f))
 TellsStatus k (status.Outside o count) = IsPut k (line_of (status.Outside o count))
 TellsStatus k status.NoMemory = IsPut k (line_of status.NoMemory)
+TellsStatus k (status.Child port s) = IsPut k (line_of (status.Child port s))

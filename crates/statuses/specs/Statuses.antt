@@ -11,3 +11,4 @@ code_of (status.Input f) = 3
 code_of (status.Peer port f) = 4
 code_of (status.Outside o count) = 5
 code_of status.NoMemory = 6
+code_of (status.Child port s) = 8

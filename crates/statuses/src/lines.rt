@@ -3,7 +3,7 @@ ghost use Rattle.std.specs.Prelude.{◌≡◌, ◌∷◌, [], codes};
 ghost use Rattle.std.specs.Fmt.{signed_decimal};
 ghost use Rattle.std.specs.List.{concat};
 ghost use Rattle.outcomes.specs.Seen.{seen};
-ghost use Rattle.statuses.specs.Lines.{TellsStatus, texts, line_one, line_two, line_three, table_name as name_of_table, assembly_cause as name_of_cause, key_line, config_line, cause_text, malformed_text, input_line, session_text, end_text, peer_line, outside_line, line_of};
+ghost use Rattle.statuses.specs.Lines.{TellsStatus, texts, line_one, line_two, line_three, table_name as name_of_table, assembly_cause as name_of_cause, key_line, config_line, cause_text, malformed_text, input_line, session_text, end_text, peer_line, outside_line, child_line, line_of};
 ghost use Rattle.statuses.specs.Takes.{PutsPieces, Takes, TakesAll};
 
 use crate::status::{InputFault, Status};
@@ -293,6 +293,24 @@ fn put_outside<E: Sink>(err: &mut E, object: Object, count: u64)
     }
 }
 
+/// Puts the line of a child that ended with another status than 0.
+fn put_child<E: Sink>(err: &mut E, port: u32, status: u8)
+    ensures { Takes E.told E.count E.room E.sound err.old err.new (child_line port status) }
+{
+    let mut first = Buffer::new();
+    let mut second = Buffer::new();
+    put_all(
+        err,
+        &[
+            "cosim: child p",
+            first.format(port),
+            " status ",
+            second.format(status),
+            "\n",
+        ],
+    );
+}
+
 /// Puts the line of a status, as far as the sink takes it; where all was done there is none.
 pub fn tell_status<E: Sink>(err: &mut E, status: &Status)
     ensures line { TellsStatus (seen E.count E.told err.old err.new) status.now }
@@ -306,5 +324,6 @@ pub fn tell_status<E: Sink>(err: &mut E, status: &Status)
         Status::Peer { port, fault } => put_peer(err, *port, *fault),
         Status::Outside { object, count } => put_outside(err, *object, *count),
         Status::NoMemory => put_all(err, &["cosim: no memory\n"]),
+        Status::Child { port, status } => put_child(err, *port, *status),
     }
 }

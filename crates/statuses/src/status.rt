@@ -53,6 +53,11 @@ pub enum Status {
     },
     /// Want of memory.
     NoMemory,
+    /// The child of that port ended with that status, which isn't 0.
+    Child {
+        port: u32,
+        status: u8,
+    },
 }
 
 impl Status {
@@ -71,6 +76,7 @@ impl Status {
             Status::Peer { .. } => 4,
             Status::Outside { .. } => 5,
             Status::NoMemory => 6,
+            Status::Child { .. } => 8,
         }
     }
 }

@@ -142,6 +142,13 @@ fn each_fault_of_a_session_has_its_line(rt: HostRuntime) -> Result<(), Fail> {
 }
 
 #[test]
+fn a_child_is_told_with_its_status(rt: HostRuntime) -> Result<(), Fail> {
+    let status = Status::Child { port: 0, status: 3 };
+    assert!(rt; is_told(rt.alloc(), &status, 8, "cosim: child p0 status 3\n")?);
+    Ok(())
+}
+
+#[test]
 fn a_malformed_packet_is_told_alike_in_a_file(rt: HostRuntime) -> Result<(), Fail> {
     let status = Status::Input(InputFault::Malformed(translation()));
     let line = "cosim: input: Malformed 44 0 Translation 7\n";
