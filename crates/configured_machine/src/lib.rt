@@ -6,5 +6,3 @@ mod parts;
 
 pub use parts::{Parts, read_parts};
 
-#[cfg(test)]
-mod tests;
