@@ -1,5 +1,6 @@
 #!/bin/sh
-# Runs an example and shows what it prints: `examples/run.sh hello`, `dma_copy` or `echo` assembles a firmware and runs it on a machine;
+# Runs an example and shows what it prints: `examples/run.sh hello`, `dma_copy` or `echo` assembles a firmware and runs it on a machine,
+# first in one process and then with a process for each device, which prints the same;
 # `examples/run.sh timer` starts a machine in Python, and a timer as a process that it talks to.
 # It ends with 1 where that isn't what the example's file says (of the echo program the closing lines alone).
 #
@@ -43,6 +44,8 @@ if [ "$name" = timer ]; then
 else
     "$program" asm "$name.s" "$name.bin"
     "$program" direct "$name.toml" >printed
+    # the same with a process for each device
+    "$program" run "$name.toml" "$program" | cmp - printed
 fi
 cat printed
 if [ "$name" = echo ]; then grep -v '^@' printed >closing && mv closing printed; fi
