@@ -19,18 +19,20 @@ abbrev pub help_status : Result Unit OutFailure → Status
 help_status (Ok u) = status.Done
 help_status (Err e) = status.Outside object.Out e.count
 
-pub helps : {L : Type 0} (a : Around L) (r : Result Unit OutFailure) → IsUntouched a.files → AsksNone a.names → IsUntouched a.net → IsPrinted a.out help_text r → (a.sound_out → IsRoomFor a.room help_text r) → Performed none_refused Helps (λ m. []) (λ m. []) a (help_status r)
-helps a (Ok u) files none net printed fits = record {
+pub helps : {L : Type 0} (a : Around L) (r : Result Unit OutFailure) → IsUntouched a.files → AsksNone a.names → IsUntouched a.net → IsUntouched a.children → IsPrinted a.out help_text r → (a.sound_out → IsRoomFor a.room help_text r) → Performed none_refused Helps (λ m. []) (λ m. []) a (help_status r)
+helps a (Ok u) files none net children printed fits = record {
   result = Ok u;
   performs = text-performs Helps a.files a.out (a.sound_files × a.sound_out) a.room help_text (Ok u) refl (untouched-stands a.files files) printed (λ sound. fits sound.1) (λ sound o p first then. first ∙ sym then);
   asks = none-all a.names none;
   status = refl;
   net = net;
+  children = children;
 }
-helps a (Err e) files none net printed fits = record {
+helps a (Err e) files none net children printed fits = record {
   result = put_result (Err e);
   performs = text-performs Helps a.files a.out (a.sound_files × a.sound_out) a.room help_text (Err e) refl (untouched-stands a.files files) printed (λ sound. fits sound.1) (λ sound o p first then. first ∙ sym then);
   asks = none-all a.names none;
   status = refl;
   net = net;
+  children = children;
 }

@@ -10,14 +10,15 @@ use Rattle.cosim_assembly.specs.declared.refusals.AsmRefusal.TheVariants as asm
 use Rattle.cosim_assembly.specs.declared.refusals.DisRefusal.TheVariants as dis
 use Rattle.cosim_inputs.specs.declared.refusals.InputsRefusal.TheVariants as inputs
 use Rattle.cosim_local.specs.declared.refusal.LocalRefusal.TheVariants as local
+use Rattle.cosim_run.specs.declared.refusal.RunRefusal.TheVariants as run
 use Rattle.cosim_packets.specs.declared.refusals.PackRefusal.TheVariants as pack
 use Rattle.cosim_packets.specs.declared.refusals.ShowRefusal.TheVariants as show
 use Rattle.cosim_serve.specs.declared.refusal.DeviceRefusal.TheVariants as device
 use Rattle.cosim_device.specs.declared.refusal.PortRefusal.TheVariants as port
-use Rattle.cosim_cli.specs.Ended.{ended_status, show_refused, pack_refused, asm_refused, dis_refused, inputs_refused, device_refused, port_refused, local_refused}
+use Rattle.cosim_cli.specs.Ended.{ended_status, show_refused, pack_refused, asm_refused, dis_refused, inputs_refused, device_refused, port_refused, local_refused, run_refused}
 use Rattle.cosim_cli.specs.Promises.{Around, Keeps, Promises, none_refused}
 use Rattle.cosim_cli.specs.Usage.{Uses}
-use Rattle.cosim_words.specs.Words.{Command, DeviceNull, DeviceTimer, DevicePort, Show, Pack, Asm, Dis, Direct, Local, Help, IsInRange, words_of}
+use Rattle.cosim_words.specs.Words.{Command, DeviceNull, DeviceTimer, DevicePort, Show, Pack, Asm, Dis, Direct, Local, Run, Help, IsInRange, words_of}
 
 -- No refusal is told as Usage, and so no command ends by it.
 abbrev NeverUsage : {R : Type 0} → (R → Status) → Type 0
@@ -51,6 +52,11 @@ port-never : NeverUsage port_refused
 port-never (port.Inputs refusal) index same = inputs-never refusal index same
 port-never (port.Peer refusal) index same = device-never refusal index same
 
+run-never : NeverUsage run_refused
+run-never (run.Inputs refusal) index same = inputs-never refusal index same
+run-never (run.Peer port fault) index same = cc (same)
+run-never (run.Child port s) index same = cc (same)
+
 local-never : NeverUsage local_refused
 local-never (local.Inputs refusal) index same = inputs-never refusal index same
 local-never (local.Steps number) index same = cc (same)
@@ -75,6 +81,7 @@ never-usage (Dis file) a index keeps = ended-never dis_refused dis-never keeps.r
 never-usage (Direct config) a index keeps = ended-never inputs_refused inputs-never keeps.result index keeps.status
 never-usage (Local config order) a index keeps =
     ended-never local_refused local-never keeps.2.result index keeps.2.status
+never-usage (Run config program) a index keeps = ended-never run_refused run-never keeps.result index keeps.status
 never-usage Help a index keeps = ended-never none_refused none-never keeps.result index keeps.status
 
 pub kept-uses : {L : Type 0} (words : List (List ℕ)) (c : Command) (a : Around L) (s : Status) → IsInRange c → words ≡ words_of c → Keeps c a s → Uses words s
@@ -85,6 +92,7 @@ kept-uses words c a (status.Input e) inside is keeps = (c, inside, is)
 kept-uses words c a (status.Peer port e) inside is keeps = (c, inside, is)
 kept-uses words c a (status.Outside o count) inside is keeps = (c, inside, is)
 kept-uses words c a status.NoMemory inside is keeps = (c, inside, is)
+kept-uses words c a (status.Child port e) inside is keeps = (c, inside, is)
 
 pub kept-promises : {L : Type 0} (words : List (List ℕ)) (c : Command) (a : Around L) (s : Status) → IsInRange c → words ≡ words_of c → Keeps c a s → Promises words a s
 kept-promises words c a status.Done inside is keeps = (c, inside, is, keeps)
@@ -94,3 +102,4 @@ kept-promises words c a (status.Input e) inside is keeps = (c, inside, is, keeps
 kept-promises words c a (status.Peer port e) inside is keeps = (c, inside, is, keeps)
 kept-promises words c a (status.Outside o count) inside is keeps = (c, inside, is, keeps)
 kept-promises words c a status.NoMemory inside is keeps = (c, inside, is, keeps)
+kept-promises words c a (status.Child port e) inside is keeps = (c, inside, is, keeps)

@@ -19,6 +19,8 @@ use Rattle.cosim_packets.specs.declared.refusals.PackRefusal.{PackRefusal}
 use Rattle.cosim_packets.specs.declared.refusals.PackRefusal.TheVariants as pack
 use Rattle.cosim_packets.specs.declared.refusals.ShowRefusal.{ShowRefusal}
 use Rattle.cosim_packets.specs.declared.refusals.ShowRefusal.TheVariants as show
+use Rattle.cosim_run.specs.declared.refusal.RunRefusal.{RunRefusal}
+use Rattle.cosim_run.specs.declared.refusal.RunRefusal.TheVariants as run
 use Rattle.cosim_serve.specs.declared.refusal.DeviceRefusal.{DeviceRefusal}
 use Rattle.cosim_serve.specs.declared.refusal.DeviceRefusal.TheVariants as device
 use Rattle.cosim_device.specs.declared.refusal.PortRefusal.{PortRefusal}
@@ -57,6 +59,11 @@ device_refused (device.Peer port fault) = status.Peer port fault
 abbrev pub port_refused : PortRefusal → Status
 port_refused (port.Inputs refusal) = inputs_refused refusal
 port_refused (port.Peer refusal) = device_refused refusal
+
+abbrev pub run_refused : RunRefusal → Status
+run_refused (run.Inputs refusal) = inputs_refused refusal
+run_refused (run.Peer port fault) = status.Peer port fault
+run_refused (run.Child port s) = status.Child port s
 
 abbrev pub local_refused : LocalRefusal → Status
 local_refused (local.Inputs refusal) = inputs_refused refusal

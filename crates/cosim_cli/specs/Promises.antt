@@ -5,6 +5,7 @@ use Rattle.std.specs.declared.result.Result.{Result}
 use Rattle.cos_base.specs.Links.{Wire}
 use Rattle.cos_base.specs.Networks.{Coming}
 use Rattle.cos_base.specs.Stores.{Store}
+use Rattle.cos_children.specs.Children.{Children}
 use Rattle.outcomes.specs.declared.stop.Stop.{Stop}
 use Rattle.outcomes.specs.Asked.{Asking, Names, AsksNone, AsksFor}
 use Rattle.outcomes.specs.Seen.{Seen, IsUntouched}
@@ -26,13 +27,15 @@ use Rattle.cosim_device.specs.Starts.{null_start, timer_start}
 use Rattle.cosim_device.specs.Served.{PortEnded, PortView, ServesPort}
 use Rattle.cosim_serve.specs.Talks.{Ended}
 use Rattle.cosim_cli.specs.Ended.{ended_status, show_refused, pack_refused, asm_refused, dis_refused, inputs_refused}
-use Rattle.cosim_cli.specs.Ended.{device_refused, port_refused, local_refused}
+use Rattle.cosim_cli.specs.Ended.{device_refused, port_refused, local_refused, run_refused}
 use Rattle.cosim_cli.specs.Help.{Helps}
-use Rattle.cosim_local.specs.declared.order.Order.{Order as Run}
+use Rattle.cosim_local.specs.declared.order.Order.{Order as RunOrder}
 use Rattle.cosim_local.specs.declared.order.Order.TheVariants as run
 use Rattle.cosim_local.specs.Locals.{LocalComes, local_names, result_names}
+use Rattle.cosim_run.specs.Conversations.{RunEnded}
+use Rattle.cosim_run.specs.Runs.{RunView, Runs}
 use Rattle.cosim_words.specs.Words.{Order, Default, Schedule, Steps}
-use Rattle.cosim_words.specs.Words.{Command, DeviceNull, DeviceTimer, DevicePort, Show, Pack, Asm, Dis, Direct, Local, Help}
+use Rattle.cosim_words.specs.Words.{Command, DeviceNull, DeviceTimer, DevicePort, Show, Pack, Asm, Dis, Direct, Local, Run, Help}
 use Rattle.cosim_words.specs.Words.{IsInRange, words_of}
 
 -- what is around a call: its objects before and after it, the names that the files were asked for, whether the objects
@@ -41,16 +44,18 @@ pub record Around (L : Type 0) : Type 1 where
   pub files : Seen Store
   pub out : Seen (List ℕ)
   pub net : Seen (Coming L)
+  pub children : Seen Children
   pub names : Asking
   pub sound_files : Type 0
   pub sound_out : Type 0
   pub sound_net : Type 0
+  pub sound_children : Type 0
   pub room : ℕ
   pub told : L → Option Wire
   pub count : L → ℕ
 
 -- A command over files ended by what it comes to, asked for the names that it reads and then for those that it writes,
--- the status is that of how it ended, and the network is untouched.
+-- the status is that of how it ended, and the network and the children are untouched.
 pub record Performed {L R : Type 0} (refused : R → Status) (Comes : Outcome R → Type 0) (reads : Names)
     (writes : Names) (a : Around L) (s : Status) : Type 0 where
   pub result : Result Unit (Stop R)
@@ -58,12 +63,13 @@ pub record Performed {L R : Type 0} (refused : R → Status) (Comes : Outcome R 
   pub asks : AsksFor reads writes a.names result
   pub status : s ≡ ended_status refused result
   pub net : IsUntouched a.net
+  pub children : IsUntouched a.children
 
 abbrev pub view_of : {L : Type 0} → Around L → NetView L
 view_of a = record { told = a.told; count = a.count; is_sound = a.sound_net }
 
 -- A device whose fresh end this is served the first link that was to come, the status is that of how it ended, and the
--- files and `out` are untouched.
+-- files, `out` and the children are untouched.
 pub record Served {L S : Type 0} (d : DeviceModel S) (start : DeviceEnd S Cause) (socket : List ℕ) (a : Around L)
     (s : Status) : Type 0 where
   pub result : Ended
@@ -72,20 +78,43 @@ pub record Served {L S : Type 0} (d : DeviceModel S) (start : DeviceEnd S Cause)
   pub files : IsUntouched a.files
   pub asks : AsksNone a.names
   pub out : IsUntouched a.out
+  pub children : IsUntouched a.children
 
 abbrev pub port_view : {L : Type 0} → Around L → PortView L
 port_view a =
     record { files = a.files; names = a.names; is_sound = a.sound_files; net = a.net; links = view_of a }
 
--- The device of a configuration's port served that link, the status is that of how it ended, and `out` is untouched.
+-- The device of a configuration's port served that link, the status is that of how it ended, and `out` and the children
+-- are untouched.
 pub record ServedPort {L : Type 0} (socket config : List ℕ) (port : ℕ) (a : Around L) (s : Status) : Type 0 where
   pub result : PortEnded
   pub serves : ServesPort config port socket (port_view a) result
   pub status : s ≡ ended_status port_refused result
   pub out : IsUntouched a.out
+  pub children : IsUntouched a.children
+
+abbrev pub run_view : {L : Type 0} → Around L → RunView L
+run_view a = record {
+  files = a.files;
+  names = a.names;
+  out = a.out;
+  net = a.net;
+  children = a.children;
+  links = view_of a;
+  sound_files = a.sound_files;
+  sound_out = a.sound_out;
+  sound_children = a.sound_children;
+  room = a.room;
+}
+
+-- The machine of a configuration was run with children that PROGRAM starts, and the status is that of how it ended.
+pub record Ran {L : Type 0} (config program : List ℕ) (a : Around L) (s : Status) : Type 0 where
+  pub result : RunEnded
+  pub runs : Runs config program (run_view a) result
+  pub status : s ≡ ended_status run_refused result
 
 -- An order of steps is the one that the words name; where they name none, it is the schedule of number 0.
-abbrev pub IsNamed : Order → Run → Type 0
+abbrev pub IsNamed : Order → RunOrder → Type 0
 IsNamed Default (run.Schedule number) = number ≡ 0
 IsNamed (Schedule named) (run.Schedule number) = number ≡ named
 IsNamed (Steps named) (run.Steps file) = file.now ≡ named
@@ -110,8 +139,9 @@ Keeps (Dis file) a s = Performed dis_refused (DisComes file a.files.old) (λ m. 
 Keeps (Direct config) a s =
     Performed inputs_refused (DirectComes a.files.old config) (direct_names config) (λ m. []) a s
 Keeps (Local config order) a s =
-    (o : Run) × IsNamed order o
+    (o : RunOrder) × IsNamed order o
     × Performed local_refused (LocalComes a.files.old config o) (local_names config o) (result_names config) a s
+Keeps (Run config program) a s = Ran config program a s
 Keeps Help a s = Performed none_refused Helps (λ m. []) (λ m. []) a s
 
 -- the words are those of a command, and it keeps its promise
@@ -120,10 +150,12 @@ KeepsSome words a s = (c : Command) × IsInRange c × (words ≡ words_of c) × 
 
 -- The program does nothing where its words are no command, and otherwise keeps the command's promise.
 abbrev pub Promises : {L : Type 0} → List (List ℕ) → Around L → Status → Type 0
-Promises words a (status.Usage index) = IsUntouched a.files × IsUntouched a.out × IsUntouched a.net × AsksNone a.names
+Promises words a (status.Usage index) =
+    IsUntouched a.files × IsUntouched a.out × IsUntouched a.net × IsUntouched a.children × AsksNone a.names
 Promises words a status.Done = KeepsSome words a status.Done
 Promises words a (status.Config e) = KeepsSome words a (status.Config e)
 Promises words a (status.Input e) = KeepsSome words a (status.Input e)
 Promises words a (status.Peer port e) = KeepsSome words a (status.Peer port e)
 Promises words a (status.Outside o count) = KeepsSome words a (status.Outside o count)
 Promises words a status.NoMemory = KeepsSome words a status.NoMemory
+Promises words a (status.Child port e) = KeepsSome words a (status.Child port e)

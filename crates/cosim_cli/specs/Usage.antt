@@ -13,6 +13,7 @@ Uses words (status.Input e) = IsCommand words
 Uses words (status.Peer port e) = IsCommand words
 Uses words (status.Outside o count) = IsCommand words
 Uses words status.NoMemory = IsCommand words
+Uses words (status.Child port e) = IsCommand words
 
 -- Words before one that isn't UTF-8 stop being a command at this index, or at that word.
 abbrev pub StopsAt : List (List ℕ) → Status → Type 0
@@ -24,3 +25,4 @@ StopsAt words (status.Input e) = ⊥
 StopsAt words (status.Peer port e) = ⊥
 StopsAt words (status.Outside o count) = ⊥
 StopsAt words status.NoMemory = ⊥
+StopsAt words (status.Child port e) = ⊥

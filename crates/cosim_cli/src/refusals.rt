@@ -1,13 +1,14 @@
 // How a command ended, as a status of the program.
 ghost use Rattle.std.specs.Prelude.{◌≡◌};
 ghost use Rattle.statuses.specs.declared.status.Status.{Status};
-ghost use Rattle.cosim_cli.specs.Ended.{ended_status, show_refused, pack_refused, asm_refused, dis_refused, inputs_refused, device_refused, port_refused, local_refused};
+ghost use Rattle.cosim_cli.specs.Ended.{ended_status, show_refused, pack_refused, asm_refused, dis_refused, inputs_refused, device_refused, port_refused, local_refused, run_refused};
 
 use cosim_assembly::{AsmRefusal, DisRefusal};
 use cosim_device::PortRefusal;
 use cosim_inputs::InputsRefusal;
 use cosim_local::LocalRefusal;
 use cosim_packets::{PackRefusal, ShowRefusal};
+use cosim_run::RunRefusal;
 use cosim_serve::DeviceRefusal;
 use outcomes::Stop;
 use statuses::{InputFault, Status};
@@ -117,6 +118,18 @@ impl Refusal for PortRefusal {
         match self {
             PortRefusal::Inputs(refusal) => refusal.status(),
             PortRefusal::Peer(refusal) => refusal.status(),
+        }
+    }
+}
+
+impl Refusal for RunRefusal {
+    ghost refused = { run_refused };
+
+    fn status(self) -> Status {
+        match self {
+            RunRefusal::Inputs(refusal) => refusal.status(),
+            RunRefusal::Peer { port, fault } => Status::Peer { port, fault },
+            RunRefusal::Child { port, status } => Status::Child { port, status },
         }
     }
 }

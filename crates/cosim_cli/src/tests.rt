@@ -1,5 +1,6 @@
 use crate::cosim;
 use cos_base::{NoMemory, Numbers, Octets};
+use cos_children::MemSpawner;
 use cos_memory::{MemFiles, MemLink, MemNet, MemSink, Said};
 use std::alloc::{AllocError, Global};
 use std::test::Fail;
@@ -40,13 +41,14 @@ fn ends(
     let mut files = MemFiles::make(alloc, Numbers::make(alloc));
     files.add("code", held)?;
     let mut net = net_of(alloc)?;
+    let mut children = MemSpawner::make(alloc, Numbers::make(alloc), Numbers::make(alloc));
     let mut out = MemSink::make(alloc, 100, Numbers::make(alloc))?;
     let mut err = MemSink::make(alloc, 100, Numbers::make(alloc))?;
     let words = match list(alloc, words) {
         Ok(words) => words,
         Err(_) => return Err(NoMemory),
     };
-    let status = cosim(alloc, &words, &mut files, &mut out, &mut err, &mut net);
+    let status = cosim(alloc, &words, &mut files, &mut out, &mut err, &mut net, &mut children);
     Ok(status.code() == code && out.bytes() == text && err.bytes() == line.as_bytes())
 }
 

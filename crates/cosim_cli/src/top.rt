@@ -11,11 +11,13 @@ ghost use Rattle.cosim_words.specs.Words.{asked, asked_order};
 use crate::help::help;
 use crate::refusals::status_of;
 use cos_base::{Files, Network, Sink};
+use cos_children::Spawner;
 use cosim_assembly::{asm, dis};
 use cosim_device::{serve_null, serve_port, serve_timer};
 use cosim_direct::direct;
 use cosim_local::local;
 use cosim_packets::{pack, show};
+use cosim_run::run;
 use cosim_words::{Command, Order, command_of, stop_of};
 use outcomes::{Object, OutFailure};
 use statuses::{Status, tell_status};
@@ -33,21 +35,24 @@ fn order_of(order: Order<'_>) -> cosim_local::Order<'_>
 }
 
 /// Does a command.
-fn perform<F: Files, K: Sink, N: Network>(
+fn perform<F: Files, K: Sink, N: Network, S: Spawner>(
     alloc: Global,
     command: Command<'_>,
     files: &mut F,
     out: &mut K,
     net: &mut N,
+    children: &mut S,
 ) -> Status
     ensures { Keeps (asked command.entry) (record {
       files = seen F.count F.told files.old files.new;
       out = seen K.count K.told out.old out.new;
       net = seen N.count N.told net.old net.new;
+      children = seen S.count S.told children.old children.new;
       names = asking F.told F.asked files.old files.new;
       sound_files = F.sound files.old;
       sound_out = K.sound out.old;
       sound_net = N.sound net.old;
+      sound_children = S.sound children.old;
       room = K.room out.old;
       told = N.Link.told;
       count = N.Link.count;
@@ -68,6 +73,9 @@ fn perform<F: Files, K: Sink, N: Network>(
         Command::Direct { config } => status_of(direct(alloc, config, files, out)),
         Command::Local { config, order } => {
             status_of(local(alloc, config, order_of(order), files, out))
+        }
+        Command::Run { config, program } => {
+            status_of(run(alloc, config, program, files, out, net, children))
         }
         Command::Help => match help(out) {
             Ok(()) => Status::Done,
@@ -93,14 +101,16 @@ fn perform<F: Files, K: Sink, N: Network>(
 /// | `direct CONFIG` | runs the machine of a configuration without packets, and prints a line for each call and the closing lines |
 /// | `local CONFIG` | runs it as ends that exchange packets, in one process, under schedule 0, and prints the same lines, a line for each link, and how many steps were effective; before, the sectors of disks are written to their `result` |
 /// | `local CONFIG schedule N`, `local CONFIG steps FILE` | the same under the schedule of a number, or a list of steps and then schedule 0 |
+/// | `run CONFIG PROGRAM` | starts `PROGRAM device SOCKET CONFIG PORT` for each port, runs the machine over the links that these children connect, and prints the lines that `direct` prints |
 /// | `help` | prints a line for each command, those that are still to come among them |
-pub fn cosim<F: Files, K: Sink, E: Sink, N: Network>(
+pub fn cosim<F: Files, K: Sink, E: Sink, N: Network, S: Spawner>(
     alloc: Global,
     words: &[String],
     files: &mut F,
     out: &mut K,
     err: &mut E,
     net: &mut N,
+    children: &mut S,
 ) -> Status
     // Usage exactly where the words are no command, with the index of the first faulty word.
     ensures usage { Uses (map string_bytes words.now) result }
@@ -109,10 +119,12 @@ pub fn cosim<F: Files, K: Sink, E: Sink, N: Network>(
       files = seen F.count F.told files.old files.new;
       out = seen K.count K.told out.old out.new;
       net = seen N.count N.told net.old net.new;
+      children = seen S.count S.told children.old children.new;
       names = asking F.told F.asked files.old files.new;
       sound_files = F.sound files.old;
       sound_out = K.sound out.old;
       sound_net = N.sound net.old;
+      sound_children = S.sound children.old;
       room = K.room out.old;
       told = N.Link.told;
       count = N.Link.count;
@@ -123,7 +135,7 @@ pub fn cosim<F: Files, K: Sink, E: Sink, N: Network>(
     ensures takes { TakesAll (E.sound err.old) (E.room err.old) (seen E.count E.told err.old err.new) (line_of result) }
 {
     let status = match command_of(words) {
-        Ok(command) => perform(alloc, command, files, out, net),
+        Ok(command) => perform(alloc, command, files, out, net, children),
         Err(index) => Status::Usage { index },
     };
     tell_status(err, &status);

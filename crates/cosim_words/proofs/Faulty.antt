@@ -1,6 +1,6 @@
 -- The forms are the commands.
 use Rattle.std.proofs.Common.{ℕ, ◌≡◌, ◌+◌, List, [], ◌∷◌, ◌++◌, take, codes, refl, ap, sym, ◌∙◌, subst, inl, inr}
-use Rattle.cosim_words.specs.Words.{Command, DeviceNull, DeviceTimer, DevicePort, Show, Pack, Asm, Dis, Direct, Local, Gen, Help, Default, Schedule, Steps, words_of, IsInRange, IsCommand, IsFaulty}
+use Rattle.cosim_words.specs.Words.{Command, DeviceNull, DeviceTimer, DevicePort, Show, Pack, Asm, Dis, Direct, Local, Gen, Run, Help, Default, Schedule, Steps, words_of, IsInRange, IsCommand, IsFaulty}
 use Rattle.cosim_words.specs.Forms.{Word, Exact, Other, Any, Number, IsWord, Fits, FitsSome, BeginsSome, FaultyIn, forms}
 
 -- words of a form that begins with a word of its own, by how many stand behind it
@@ -82,8 +82,10 @@ forms-commands ws (inr (inr (inr (inr (inr (inr (inr (inr (inl fits))))))))) = l
 forms-commands ws (inr (inr (inr (inr (inr (inr (inr (inr (inr (inl fits)))))))))) = schedule-command ws fits
 forms-commands ws (inr (inr (inr (inr (inr (inr (inr (inr (inr (inr (inl fits))))))))))) = steps-command ws fits
 forms-commands ws (inr (inr (inr (inr (inr (inr (inr (inr (inr (inr (inr (inl fits)))))))))))) = gen-command ws fits
-forms-commands ws (inr (inr (inr (inr (inr (inr (inr (inr (inr (inr (inr (inr (inl fits))))))))))))) = (Help, tt, fits-one (codes "help") ws fits)
-forms-commands ws (inr (inr (inr (inr (inr (inr (inr (inr (inr (inr (inr (inr (inr fits))))))))))))) = absurd fits
+forms-commands ws (inr (inr (inr (inr (inr (inr (inr (inr (inr (inr (inr (inr (inl fits))))))))))))) =
+    let by = fits-three (codes "run") Any Any ws fits in (Run by.0 by.1, by.2, by.4)
+forms-commands ws (inr (inr (inr (inr (inr (inr (inr (inr (inr (inr (inr (inr (inr (inl fits)))))))))))))) = (Help, tt, fits-one (codes "help") ws fits)
+forms-commands ws (inr (inr (inr (inr (inr (inr (inr (inr (inr (inr (inr (inr (inr (inr fits)))))))))))))) = absurd fits
 
 pub command-fits : (c : Command) → IsInRange c → FitsSome forms (words_of c)
 command-fits (DeviceNull socket) range = inl (refl, (tt, (refl, tt)))
@@ -98,7 +100,9 @@ command-fits (Local config Default) range = inr (inr (inr (inr (inr (inr (inr (i
 command-fits (Local config (Schedule number)) range = inr (inr (inr (inr (inr (inr (inr (inr (inr (inl (refl, (tt, (refl, ((number, range, refl), tt)))))))))))))
 command-fits (Local config (Steps file)) range = inr (inr (inr (inr (inr (inr (inr (inr (inr (inr (inl (refl, (tt, (refl, (tt, tt))))))))))))))
 command-fits (Gen number) range = inr (inr (inr (inr (inr (inr (inr (inr (inr (inr (inr (inl (refl, ((number, range, refl), tt)))))))))))))
-command-fits Help range = inr (inr (inr (inr (inr (inr (inr (inr (inr (inr (inr (inr (inl (refl, tt)))))))))))))
+command-fits (Run config program) range =
+    inr (inr (inr (inr (inr (inr (inr (inr (inr (inr (inr (inr (inl (refl, (tt, (tt, tt)))))))))))))))
+command-fits Help range = inr (inr (inr (inr (inr (inr (inr (inr (inr (inr (inr (inr (inr (inl (refl, tt))))))))))))))
 
 pub commands-forms : (ws : List (List ℕ)) → IsCommand ws → FitsSome forms ws
 commands-forms ws (c, range, is) = subst (FitsSome forms) (sym is) (command-fits c range)

@@ -23,6 +23,7 @@ pub data Command : Type 0 where
   Direct : List ℕ → Command
   Local : List ℕ → Order → Command
   Gen : ℕ → Command
+  Run : List ℕ → List ℕ → Command
   Help : Command
 
 -- a number stands in decimal digits, without leading zeros
@@ -43,6 +44,7 @@ words_of (Dis file) = codes "dis" ∷ file ∷ []
 words_of (Direct config) = codes "direct" ∷ config ∷ []
 words_of (Local config order) = codes "local" ∷ config ∷ order_words order
 words_of (Gen number) = codes "gen" ∷ decimal number ∷ []
+words_of (Run config program) = codes "run" ∷ config ∷ program ∷ []
 words_of Help = codes "help" ∷ []
 
 -- A line is one of 32, a port and a number have 32 bits, and no configuration is named as the timer is.
@@ -63,6 +65,7 @@ IsInRange (Dis file) = Unit {0}
 IsInRange (Direct config) = Unit {0}
 IsInRange (Local config order) = IsOrder order
 IsInRange (Gen number) = number ≤ 4294967295
+IsInRange (Run config program) = Unit {0}
 IsInRange Help = Unit {0}
 
 -- the command that was read
@@ -83,6 +86,7 @@ asked (read.Dis file) = Dis file.now
 asked (read.Direct config) = Direct config.now
 asked (read.Local config order) = Local config.now (asked_order order)
 asked (read.Gen number) = Gen number
+asked (read.Run config program) = Run config.now program.now
 asked read.Help = Help
 
 abbrev pub IsCommand : List (List ℕ) → Type 0

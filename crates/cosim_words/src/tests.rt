@@ -51,6 +51,11 @@ fn words_are_read_as_commands(rt: HostRuntime) -> Result<(), Fail> {
     assert!(rt; reads(alloc, &["direct", "c"], Ok(Command::Direct { config }))?);
     let most = Command::Gen { number: u32::MAX };
     assert!(rt; reads(alloc, &["gen", "4294967295"], Ok(most))?);
+    let run = Command::Run {
+        config: "c",
+        program: "p",
+    };
+    assert!(rt; reads(alloc, &["run", "c", "p"], Ok(run))?);
     assert!(rt; reads(alloc, &["help"], Ok(Command::Help))?);
     Ok(())
 }
@@ -79,7 +84,7 @@ fn a_local_run_has_an_order(rt: HostRuntime) -> Result<(), Fail> {
 #[test]
 fn other_words_stop_being_one(rt: HostRuntime) -> Result<(), Fail> {
     let alloc = rt.alloc();
-    let rows: [(&[&str], u64); 22] = [
+    let rows: [(&[&str], u64); 25] = [
         (&[], 0),
         (&["devices", "s", "null"], 0),
         (&["device", "s"], 2),
@@ -95,6 +100,9 @@ fn other_words_stop_being_one(rt: HostRuntime) -> Result<(), Fail> {
         (&["gen", "4294967296"], 1),
         (&["gen", "01"], 1),
         (&["gen", "1", "x"], 2),
+        (&["run"], 1),
+        (&["run", "c"], 2),
+        (&["run", "c", "p", "x"], 3),
         (&["help", "x"], 1),
         (&["local"], 1),
         (&["local", "c", "schedules"], 2),

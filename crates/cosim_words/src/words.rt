@@ -65,6 +65,11 @@ pub enum Command<'a> {
     Gen {
         number: u32,
     },
+    /// Run the machine of a configuration with a process of a program for each device.
+    Run {
+        config: &'a str,
+        program: &'a str,
+    },
     /// Print the help text.
     Help,
 }
@@ -305,6 +310,12 @@ pub fn command_of(words: &[String]) -> Result<Command<'_>, u64>
     if is_word(verb, "gen") {
         return match number_word(after, u32::MAX) {
             Ok(number) => Ok(Command::Gen { number }),
+            Err(index) => Err(index + 1),
+        };
+    }
+    if is_word(verb, "run") {
+        return match two_words(after) {
+            Ok((config, program)) => Ok(Command::Run { config, program }),
             Err(index) => Err(index + 1),
         };
     }

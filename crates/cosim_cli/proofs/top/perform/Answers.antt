@@ -14,6 +14,7 @@ returns-in-DeviceNull g c =
       files = record { count = refl; same = refl };
       asks = refl;
       out = record { count = refl; same = refl };
+      children = record { count = refl; same = refl };
     })
 
 pub returns-in-DeviceTimer : goal.returns-in-DeviceTimer
@@ -26,6 +27,7 @@ returns-in-DeviceTimer g c =
       files = record { count = refl; same = refl };
       asks = refl;
       out = record { count = refl; same = refl };
+      children = record { count = refl; same = refl };
     })
 
 pub returns-in-DevicePort : goal.returns-in-DevicePort
@@ -36,15 +38,16 @@ returns-in-DevicePort g c =
       serves = c.serve_port.ensures;
       status = c.status_of-in-DevicePort.ensures;
       out = record { count = refl; same = refl };
+      children = record { count = refl; same = refl };
     })
 
 pub returns-in-Show : goal.returns-in-Show
 returns-in-Show g c =
-    rw c.in-Show.is (record { result = c.show.result; performs = c.show.ensures.performs; asks = c.show.ensures.asks; status = c.status_of-in-Show.ensures; net = record { count = refl; same = refl } })
+    rw c.in-Show.is (record { result = c.show.result; performs = c.show.ensures.performs; asks = c.show.ensures.asks; status = c.status_of-in-Show.ensures; net = record { count = refl; same = refl }; children = record { count = refl; same = refl } })
 
 pub returns-in-Pack : goal.returns-in-Pack
 returns-in-Pack g c =
-    rw c.in-Pack.is (record { result = c.pack.result; performs = c.pack.ensures.performs; asks = c.pack.ensures.asks; status = c.status_of-in-Pack.ensures; net = record { count = refl; same = refl } })
+    rw c.in-Pack.is (record { result = c.pack.result; performs = c.pack.ensures.performs; asks = c.pack.ensures.asks; status = c.status_of-in-Pack.ensures; net = record { count = refl; same = refl }; children = record { count = refl; same = refl } })
 
 pub returns-in-Asm : goal.returns-in-Asm
 returns-in-Asm g c =
@@ -55,15 +58,16 @@ returns-in-Asm g c =
       asks = c.asm.ensures.asks;
       status = c.status_of-in-Asm.ensures;
       net = record { count = refl; same = refl };
+      children = record { count = refl; same = refl };
     })
 
 pub returns-in-Dis : goal.returns-in-Dis
 returns-in-Dis g c =
-    rw c.in-Dis.is (record { result = c.dis.result; performs = c.dis.ensures.performs; asks = c.dis.ensures.asks; status = c.status_of-in-Dis.ensures; net = record { count = refl; same = refl } })
+    rw c.in-Dis.is (record { result = c.dis.result; performs = c.dis.ensures.performs; asks = c.dis.ensures.asks; status = c.status_of-in-Dis.ensures; net = record { count = refl; same = refl }; children = record { count = refl; same = refl } })
 
 pub returns-in-Direct : goal.returns-in-Direct
 returns-in-Direct g c =
-    rw c.in-Direct.is (record { result = c.direct.result; performs = c.direct.ensures.performs; asks = c.direct.ensures.asks; status = c.status_of-in-Direct.ensures; net = record { count = refl; same = refl } })
+    rw c.in-Direct.is (record { result = c.direct.result; performs = c.direct.ensures.performs; asks = c.direct.ensures.asks; status = c.status_of-in-Direct.ensures; net = record { count = refl; same = refl }; children = record { count = refl; same = refl } })
 
 pub returns-in-Local : goal.returns-in-Local
 returns-in-Local g c =
@@ -76,13 +80,18 @@ returns-in-Local g c =
         asks = c.local.ensures.asks;
         status = c.status_of-in-Local.ensures;
         net = record { count = refl; same = refl };
+        children = record { count = refl; same = refl };
       },
     )
 
+pub returns-in-Run : goal.returns-in-Run
+returns-in-Run g c =
+    rw c.in-Run.is (record { result = c.run.result; runs = c.run.ensures; status = c.status_of-in-Run.ensures })
+
 pub returns-in-Ok : goal.returns-in-Ok
 returns-in-Ok g c =
-    rw c.in-Help.is (helps _ (Ok tt) (record { count = refl; same = refl }) refl (record { count = refl; same = refl }) c.in-Ok.ensures.puts c.in-Ok.ensures.is_sound)
+    rw c.in-Help.is (helps _ (Ok tt) (record { count = refl; same = refl }) refl (record { count = refl; same = refl }) (record { count = refl; same = refl }) c.in-Ok.ensures.puts c.in-Ok.ensures.is_sound)
 
 pub returns-in-Err : goal.returns-in-Err
 returns-in-Err g c =
-    rw c.in-Help.is (helps _ (Err c.in-Err.field-0) (record { count = refl; same = refl }) refl (record { count = refl; same = refl }) c.in-Err.ensures.puts c.in-Err.ensures.is_sound)
+    rw c.in-Help.is (helps _ (Err c.in-Err.field-0) (record { count = refl; same = refl }) refl (record { count = refl; same = refl }) (record { count = refl; same = refl }) c.in-Err.ensures.puts c.in-Err.ensures.is_sound)

@@ -46,50 +46,35 @@ pub returns-in-Err-number_word-clause-err : goal.returns-in-Err-number_word-clau
 returns-in-Err-number_word-clause-err c =
     faulty-of _ _ (faulty-verb forms ((Number 4294967295 ∷ []) ∷ []) (codes "gen") _ _ _ _ c.in-Some.ensures (c.is_word-8.ensures.yes c.if-is_word-8.true) refl refl c.in-Err-number_word.ensures.err)
 
+-- run
+pub returns-in-Err-two_words-2-clause-err : goal.returns-in-Err-two_words-2-clause-err
+returns-in-Err-two_words-2-clause-err c =
+    faulty-of _ _ (faulty-verb forms ((Any ∷ Any ∷ []) ∷ []) (codes "run") _ _ _ _ c.in-Some.ensures (c.is_word-9.ensures.yes c.if-is_word-9.true) refl refl c.in-Err-two_words-2.ensures.err)
+
 -- help
 pub returns-in-Err-no_word-clause-err : goal.returns-in-Err-no_word-clause-err
 returns-in-Err-no_word-clause-err c =
-    faulty-of _ _ (faulty-verb forms ([] ∷ []) (codes "help") _ _ _ _ c.in-Some.ensures (c.is_word-9.ensures.yes c.if-is_word-9.true) refl refl c.in-Err-no_word.ensures.err)
+    faulty-of _ _ (faulty-verb forms ([] ∷ []) (codes "help") _ _ _ _ c.in-Some.ensures (c.is_word-10.ensures.yes c.if-is_word-10.true) refl refl c.in-Err-no_word.ensures.err)
 
 pub returns-clause-err : goal.returns-clause-err
 returns-clause-err c =
     let device = c.is_word.ensures.no c.if-is_word.false in
-    let run = c.is_word-7.ensures.no c.if-is_word-7.false in
+    let local = c.is_word-7.ensures.no c.if-is_word-7.false in
     faulty-of _ _ (faulty-here forms _ _ _ c.in-Some.ensures
     (behind-others _ forms (
       device,
-      (
-        device,
-        (
-          device,
-          (
-            c.is_word-2.ensures.no c.if-is_word-2.false,
-            (
-              c.is_word-3.ensures.no c.if-is_word-3.false,
-              (
-                c.is_word-4.ensures.no c.if-is_word-4.false,
-                (
-                  c.is_word-5.ensures.no c.if-is_word-5.false,
-                  (
-                    c.is_word-6.ensures.no c.if-is_word-6.false,
-                    (
-                      run,
-                      (
-                        run,
-                        (
-                          run,
-                          (
-                            c.is_word-8.ensures.no c.if-is_word-8.false,
-                            (c.is_word-9.ensures.no c.if-is_word-9.false, tt),
-                          ),
-                        ),
-                      ),
-                    ),
-                  ),
-                ),
-              ),
-            ),
-          ),
-        ),
-      ),
+      device,
+      device,
+      c.is_word-2.ensures.no c.if-is_word-2.false,
+      c.is_word-3.ensures.no c.if-is_word-3.false,
+      c.is_word-4.ensures.no c.if-is_word-4.false,
+      c.is_word-5.ensures.no c.if-is_word-5.false,
+      c.is_word-6.ensures.no c.if-is_word-6.false,
+      local,
+      local,
+      local,
+      c.is_word-8.ensures.no c.if-is_word-8.false,
+      c.is_word-9.ensures.no c.if-is_word-9.false,
+      c.is_word-10.ensures.no c.if-is_word-10.false,
+      tt,
     )) begins-forms)
