@@ -12,7 +12,7 @@ ghost use Rattle.cosim_run.specs.Steps.{IsFinished, RanIll, RanWell, StopsSoundl
 use crate::conversation::{Driven, converse};
 use crate::refusal::RunRefusal;
 use configured_machine::{Parts, read_parts};
-use cos_base::{Failed, Files, Network, NoMemory, Numbers, Octets, Sink};
+use cos_base::{Failed, Files, Network, NoMemory, Octets, Sink};
 use cos_children::Spawner;
 use cos_config::Sockets;
 use cosim_inputs::InputsRefusal;
@@ -81,7 +81,7 @@ fn run_parts<N: Network, S: Spawner>(
         (seen N.count N.told net.old net.new) (seen S.count S.told children.old children.new)) }
 {
     let mut links = Vec::new(alloc);
-    let mut numbers = Numbers::make(alloc);
+    let mut numbers = Vec::new(alloc);
     let driven = converse(
         alloc,
         parts,

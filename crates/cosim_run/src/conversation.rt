@@ -9,7 +9,7 @@ ghost use Rattle.cosim_run.specs.Steps.{ComesDriven, ComesUndriven};
 
 use crate::refusal::RunRefusal;
 use configured_machine::Parts;
-use cos_base::{NoMemory, Network, Numbers};
+use cos_base::{Network, NoMemory};
 use cos_children::Spawner;
 use cos_config::Config;
 use cos_parts::{AnyDevice, AnyMaster};
@@ -78,19 +78,19 @@ pub fn converse<N: Network, S: Spawner>(
     program: &str,
     config: &str,
     links: &mut Vec<N::Link>,
-    numbers: &mut Numbers,
+    numbers: &mut Vec<u32>,
     net: &mut N,
     children: &mut S,
 ) -> Result<Driven, Stop<RunRefusal>>
     requires may_run { MayRun parts }
     requires no_links { links.old.items ≡ [] }
-    requires no_numbers { numbers.old ≡ [] }
+    requires no_numbers { numbers.old.items ≡ [] }
     ensures ok { IfOk result (ComesDriven program.now config.now
         (record { told = N.Link.told; count = N.Link.count; is_sound = N.sound net.old }) parts
-        (seen N.count N.told net.old net.new) (seen S.count S.told children.old children.new) numbers.new) }
+        (seen N.count N.told net.old net.new) (seen S.count S.told children.old children.new) numbers.new.items) }
     ensures err { IfErr result (ComesUndriven program.now config.now
         (record { told = N.Link.told; count = N.Link.count; is_sound = N.sound net.old }) parts
-        (seen N.count N.told net.old net.new) (seen S.count S.told children.old children.new) numbers.new) }
+        (seen N.count N.told net.old net.new) (seen S.count S.told children.old children.new) numbers.new.items) }
     ensures lines { IfOk result (λ d. All HasLine d.end.clear.calls) }
     ensures sound_children { S.sound children.old → S.sound children.new }
     ensures soundly { N.sound net.old → S.sound children.old → IfErr result (λ e.

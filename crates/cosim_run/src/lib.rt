@@ -9,5 +9,3 @@ mod refusal;
 pub use command::run;
 pub use refusal::RunRefusal;
 
-#[cfg(test)]
-mod tests;
