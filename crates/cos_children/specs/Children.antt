@@ -66,25 +66,23 @@ SpawnCounts before now result =
     MatchResult result (λ _. now ≡ before)
     (λ e. elim e [ spawn.Failed ↦ Rises before now | spawn.NoMemory ↦ now ≡ before ])
 
--- What a start did to what is told: an answer gives a new number, and a refusal changes nothing.
+-- What a start did to what is told: an answer gives a new number, and a refusal changes nothing. What isn't told before
+-- a call isn't told after it.
 abbrev pub Starts : Option Children → Option Children → List (List ℕ) → Result ℕ SpawnFault → Type 0
-Starts None new words result = Unit {0}
+Starts None new words result = new ≡ None
 Starts (Some c) new words result =
     MatchResult result
     (λ n. IsNew c n × (new ≡ Some (with_started c words n)))
     (λ _. IfSome new (λ d. d ≡ c))
 
--- What a wait did to what is told: only a child that runs gives a status, and none runs after its wait, unless memory
--- was wanted, which changes nothing.
+-- What a wait did to what is told: only a child that runs gives a status, and none runs after its wait, whatever it
+-- answers.
 abbrev pub Waits : Option Children → Option Children → ℕ → Result ℕ SpawnFault → Type 0
-Waits None new child result = Unit {0}
+Waits None new child result = new ≡ None
 Waits (Some c) new child result =
     MatchResult result
     (λ status. Runs c child × (new ≡ Some (with_ended c child status)))
-    (λ e. elim e [
-      | spawn.Failed ↦ IfSome new (λ d. d ≡ with_stopped c child)
-      | spawn.NoMemory ↦ IfSome new (λ d. d ≡ c)
-    ])
+    (λ _. IfSome new (λ d. d ≡ with_stopped c child))
 
 -- a sound spawner fails to wait only for a child that doesn't run
 abbrev pub WaitsSoundly : {T : Type 0} → Option Children → ℕ → Result T SpawnFault → Type 0

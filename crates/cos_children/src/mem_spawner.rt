@@ -121,7 +121,10 @@ impl Spawner for MemSpawner {
                 self.calls.pass();
                 Ok(status)
             }
-            Err(_) => Err(SpawnFault::NoMemory),
+            Err(_) => {
+                self.children.stop(child);
+                Err(SpawnFault::NoMemory)
+            }
         }
     }
 }

@@ -58,8 +58,8 @@ pub trait Spawner {
         ensures tells { Starts (told self.old) (told self.new) (map string_bytes words.now) result }
         ensures is_sound { sound self.old → sound self.new × (IsErrOf result SpawnFault.Failed → ⊥) };
 
-    /// Waits until a child ends, and gives the status that it ended with. After `Failed` it can't be waited for again;
-    /// want of memory leaves it running.
+    /// Waits until a child ends, and gives the status that it ended with. It can't be waited for again, whatever the
+    /// answer is.
     fn wait(&mut self, child: u32) -> Result<u8, SpawnFault>
         ensures counts { SpawnCounts (count self.old) (count self.new) result }
         ensures tells { Waits (told self.old) (told self.new) child result }

@@ -17,11 +17,31 @@ pub record HasGiven {L : Type 0} (names : List (List ℕ)) (links : List L) (old
   pub coming : old.coming ≡ links ++ new.coming
   pub names_are : new.names ≡ old.names ++ names
 
+-- and it still tells, or may
+abbrev pub Gives : {L : Type 0} → List (List ℕ) → List L → Option (Coming L) → Option (Coming L) → Type 0
+Gives names links old new = IfSome old (λ o. IsSomeAnd new (λ n. HasGiven names links o n))
+
+abbrev pub MayGive : {L : Type 0} → List (List ℕ) → List L → Option (Coming L) → Option (Coming L) → Type 0
+MayGive names links old new = IfSome old (λ o. IfSome new (λ n. HasGiven names links o n))
+
 -- one child after another was started, by these words, and got these numbers
 abbrev pub with_all : Children → List (List (List ℕ)) → List ℕ → Children
-with_all c (words ∷ more) (n ∷ ns) = with_all (with_started c words n) more ns
-with_all c (words ∷ more) [] = c
 with_all c [] ns = c
+with_all c (words ∷ more) [] = c
+with_all c (words ∷ more) (n ∷ ns) = with_all (with_started c words n) more ns
+
+-- what that adds to the children that were started
+abbrev pub pairs : List (List (List ℕ)) → List ℕ → List (List (List ℕ) × ℕ)
+pairs [] ns = []
+pairs (words ∷ more) [] = []
+pairs (words ∷ more) (n ∷ ns) = (words, n) ∷ pairs more ns
+
+-- and that is still told, or may be
+abbrev pub StartsAll : List (List (List ℕ)) → List ℕ → Option Children → Option Children → Type 0
+StartsAll words numbers old new = IfSome old (λ o. IsSomeAnd new (λ n. n ≡ with_all o words numbers))
+
+abbrev pub MayStart : List (List (List ℕ)) → List ℕ → Option Children → Option Children → Type 0
+MayStart words numbers old new = IfSome old (λ o. IfSome new (λ n. n ≡ with_all o words numbers))
 
 -- Each port has its link and its child, and no call failed.
 pub record IsOpened {L : Type 0} (sockets : List (List ℕ)) (words : List (List (List ℕ))) (net : Seen (Coming L))
@@ -30,8 +50,8 @@ pub record IsOpened {L : Type 0} (sockets : List (List ℕ)) (words : List (List
   pub children_stand : CountStands children
   pub each_link : length links ≡ length sockets
   pub each_child : length numbers ≡ length sockets
-  pub gives : IfSome net.old (λ old. IsSomeAnd net.new (λ new. HasGiven sockets links old new))
-  pub starts : IfSome children.old (λ old. IsSomeAnd children.new (λ new. new ≡ with_all old words numbers))
+  pub gives : Gives sockets links net.old net.new
+  pub starts : StartsAll words numbers children.old children.new
 
 -- The network is blamed only where its count rose, and so is the spawner.
 abbrev pub Blames : {L : Type 0} → Seen (Coming L) → Seen Children → OpenFault → Type 0
@@ -52,8 +72,8 @@ pub record IsUnopened {L : Type 0} (sockets : List (List ℕ)) (words : List (Li
   pub each_child : length numbers ≡ length started
   pub few_links : length links ≤ length numbers
   pub listens_first : (unnamed ≡ []) ⊎ (started ≡ [])
-  pub gives : IfSome net.old (λ old. IfSome net.new (λ new. HasGiven names links old new))
-  pub starts : IfSome children.old (λ old. IfSome children.new (λ new. new ≡ with_all old started numbers))
+  pub gives : MayGive names links net.old net.new
+  pub starts : MayStart started numbers children.old children.new
   -- what isn't told isn't told later
   pub untold : children.old ≡ None → children.new ≡ None
 

@@ -22,9 +22,16 @@ with_wait c child (Err e) = with_stopped c child
 
 -- one child after another was waited for, and that gave this
 abbrev pub with_waits : Children → List ℕ → List Given → Children
-with_waits c (child ∷ children) (given ∷ more) = with_waits (with_wait c child given) children more
-with_waits c (child ∷ children) [] = c
 with_waits c [] given = c
+with_waits c (child ∷ children) [] = c
+with_waits c (child ∷ children) (given ∷ more) = with_waits (with_wait c child given) children more
+
+-- what that adds to the numbers and statuses that waiting gave
+abbrev pub statuses_of : List ℕ → List Given → List (ℕ × ℕ)
+statuses_of [] given = []
+statuses_of (child ∷ children) [] = []
+statuses_of (child ∷ children) (Ok status ∷ more) = (child, status) ∷ statuses_of children more
+statuses_of (child ∷ children) (Err e ∷ more) = statuses_of children more
 
 -- What the waits of this port and those behind it come to that gave this: the first that is no status 0.
 abbrev pub ComesTo : ℕ → List Given → Result Unit WaitFault → Type 0

@@ -5,10 +5,8 @@
 mod fault;
 mod opening;
 mod waiting;
+mod words;
 
 pub use fault::{OpenFault, WaitFault};
 pub use opening::open_links;
 pub use waiting::wait_for_all;
-
-#[cfg(test)]
-mod tests;

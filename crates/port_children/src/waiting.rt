@@ -10,6 +10,7 @@ use cos_children::{SpawnFault, Spawner};
 /// Waits for the child of a port.
 fn wait_for<S: Spawner>(port: u32, child: u32, children: &mut S) -> Result<(), WaitFault>
     ensures waits { IsOneWaited port child (seen S.count S.told children.old children.new) result }
+    ensures grows { S.count children.old ≤ S.count children.new }
     ensures is_sound { S.sound children.old → S.sound children.new
         × (IfSome (S.told children.old) (λ c. Runs c child) → NotSpawner result) }
 {
