@@ -82,26 +82,27 @@ module _ {L : Type 0} (program config : List ℕ) (view : NetView L) (p : Parts)
   -- None of the children runs any more.
 
   ran-before : (old mid new : Option Children) (started : List (List (List ℕ))) (numbers : List ℕ) (given : List Given)
-      → length numbers ≡ length started → length given ≡ length numbers → IfSome mid AreChildren
+      → length numbers ≡ length started → length given ≡ length numbers → IfSome old AreChildren
+      → IfSome mid AreChildren
       → IfSome old (λ o. IfSome mid (λ m. m ≡ with_all o started numbers))
       → IfSome mid (λ m. IfSome new (λ n. n ≡ with_waits m numbers given)) → (mid ≡ None → new ≡ None)
       → IfSome old (λ o. IfSome new (λ n. n.running ≡ o.running))
-  ran-before None mid new started numbers given each waits are starts ends untold = tt
-  ran-before (Some o) None new started numbers given each waits are starts ends untold =
+  ran-before None mid new started numbers given each waits were are starts ends untold = tt
+  ran-before (Some o) None new started numbers given each waits were are starts ends untold =
       subst (λ n. IfSome n (λ n. n.running ≡ o.running)) (sym (untold refl)) tt
-  ran-before (Some o) (Some m) None started numbers given each waits are starts ends untold = tt
-  ran-before (Some o) (Some m) (Some n) started numbers given each waits are starts ends untold =
+  ran-before (Some o) (Some m) None started numbers given each waits were are starts ends untold = tt
+  ran-before (Some o) (Some m) (Some n) started numbers given each waits were are starts ends untold =
       let as_started = subst AreChildren starts are in
       ap (λ (c : Children). c.running) (ends ∙ ap (λ c. with_waits c numbers given) starts)
-      ∙ as-before started numbers given o as_started each waits
+      ∙ as-before started numbers given o were as_started each waits
 
   pub with-children : (first second : Seen Children) (numbers : List ℕ) (left : Machine) (driven : RunEnded)
       (waited : Result Unit WaitFault) → MayRun p → second.before ≡ first.now → second.old ≡ first.new
-      → IfSome first.new AreChildren → IsConversation program config view p net first numbers left driven
-      → IsWaited numbers second waited
+      → IfSome first.old AreChildren → IfSome first.new AreChildren
+      → IsConversation program config view p net first numbers left driven → IsWaited numbers second waited
       → WithChildren program config view p net
       (record { before = first.before; now = second.now; old = first.old; new = second.new }) left driven waited
-  with-children first second numbers left driven waited may joined same are talks waits =
+  with-children first second numbers left driven waited may joined same were are talks waits =
       let ended = subst (λ o. IsWaited numbers (record { before = first.now; now = second.now; old = o; new = second.new }) waited)
       same (subst (λ n. IsWaited numbers (record { before = n; now = second.now; old = second.old; new = second.new }) waited)
       joined waits) in
@@ -112,7 +113,7 @@ module _ {L : Type 0} (program config : List ℕ) (view : NetView L) (p : Parts)
         talks = talks;
         waits = ended;
         running = ran-before first.old first.new second.new talks.to.started numbers ended.given talks.each ended.each
-            are talks.starts ended.waits ended.untold;
+            were are talks.starts ended.waits ended.untold;
         directly = directly-of first numbers left driven may talks;
       }
 
