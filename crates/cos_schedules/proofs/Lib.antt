@@ -3,3 +3,4 @@ pub mod Places
 pub mod Courses
 pub mod GivenRounds
 pub mod StarRounds
+pub mod Passing

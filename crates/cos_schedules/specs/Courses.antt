@@ -1,6 +1,7 @@
 -- A schedule under way.
-use Rattle.std.specs.Prelude.{◌≡◌, ℕ, List, [], ◌∷◌}
+use Rattle.std.specs.Prelude.{◌≡◌, ℕ, zero, suc, Bool, true, false, List, [], ◌∷◌, ◌++◌}
 use Rattle.cos_schedules.specs.declared.step.Step.{Step}
+use Rattle.cos_schedules.specs.declared.step.Step.TheVariants.{Machine, Device, Deliver}
 use Rattle.cos_schedules.specs.Schedules.{round, after_round}
 
 pub record Course : Type 0 where
@@ -33,3 +34,24 @@ Gives old step new = begun old ≡ record new { left = step ∷ new.left }
 abbrev pub GivesAll : Course → List Step → Course → Type 0
 GivesAll old [] new = old ≡ new
 GivesAll old (step ∷ steps) new = (mid : Course) × Gives old step mid × GivesAll mid steps new
+
+-- Whether it is the machine's.
+abbrev pub is_machine : Step → Bool
+is_machine Machine = true
+is_machine (Device port) = false
+is_machine (Deliver port way count) = false
+
+-- None of them is the machine's.
+abbrev pub AreOthers : List Step → Type 0
+AreOthers [] = Unit {0}
+AreOthers (step ∷ steps) = (is_machine step ≡ false) × AreOthers steps
+
+-- It gives steps up to the machine's next one, and that.
+abbrev pub PassesTo : List Step → Course → Course → Type 0
+PassesTo passed old new = AreOthers passed × GivesAll old (passed ++ Machine ∷ []) new
+
+-- It gives steps up to and with so many of the machine's.
+abbrev pub PassesTurns : ℕ → Course → Course → Type 0
+PassesTurns zero old new = old ≡ new
+PassesTurns (suc turns) old new =
+    (mid : Course) × (passed : List Step) × PassesTo passed old mid × PassesTurns turns mid new

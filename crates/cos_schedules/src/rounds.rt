@@ -1,6 +1,7 @@
 // A schedule under way.
 ghost use Rattle.std.specs.Prelude.{◌≡◌, ◌<◌, Some, slice_get};
 ghost use Rattle.cos_schedules.specs.Schedules.{base, base_length, turned};
+ghost use Rattle.cos_schedules.specs.Courses.{is_machine};
 ghost use Rattle.cos_schedules.specs.Held as held;
 
 use crate::{Draws, Step, Way};
@@ -92,6 +93,21 @@ fn counted_in(number: u32, step: Step, draws: &mut Draws) -> Step
     }
 }
 
+/// Whether a step is the machine's.
+fn is_machine(step: Step) -> bool
+    ensures { result ≡ is_machine step }
+{
+    match step {
+        Step::Machine => true,
+        Step::Device { port: _ } => false,
+        Step::Deliver {
+            port: _,
+            way: _,
+            count: _,
+        } => false,
+    }
+}
+
 /// The steps of a schedule, one after another and without an end. It takes no memory. Contracts see what is left of the
 /// round that was begun.
 #[derive(Drop)]
@@ -106,7 +122,7 @@ pub struct Rounds {
 }
 
 impl Model for Rounds {
-    ghost use Rattle.std.specs.Prelude.{◌<◌, ◌≤◌, drop};
+    ghost use Rattle.std.specs.Prelude.{◌≡◌, ◌<◌, ◌≤◌, drop};
     ghost use Rattle.cos_schedules.specs.Schedules.{base, base_length, turned};
     ghost use Rattle.cos_schedules.specs.Courses.{Course};
     ghost use Rattle.cos_schedules.specs.Held.{course_of};
@@ -115,12 +131,13 @@ impl Model for Rounds {
 
     ghost view = { λ r. course_of r.number r.ports r.draws.x (drop r.given (turned r.first (base r.ports))) };
 
-    ghost invariant = { λ r. (r.first < base_length r.ports) × (r.given ≤ base_length r.ports) };
+    ghost invariant = { λ r. (r.first < base_length r.ports) × (r.given ≤ base_length r.ports) × (r.number ≡ 0 → r.first ≡ 0) };
 }
 
 impl Rounds {
-    ghost use Rattle.std.specs.Prelude.{◌≡◌, ◌≤◌, ◌∷◌, length};
-    ghost use Rattle.cos_schedules.specs.Courses.{fresh_course, begun, Gives};
+    ghost use Rattle.std.specs.Prelude.{◌≡◌, ◌≤◌, ◌∷◌, List, length};
+    ghost use Rattle.cos_schedules.specs.declared.step.Step.{Step as AnyStep};
+    ghost use Rattle.cos_schedules.specs.Courses.{fresh_course, begun, Gives, PassesTo, PassesTurns};
 
     /// The schedule of this number over so many ports, before its first step.
     ///
@@ -167,5 +184,46 @@ impl Rounds {
     {
         self.begin();
         self.step()
+    }
+
+    /// Passes over the steps up to the machine's next one, and that. Under schedule 0 it takes the same time however many
+    /// they are.
+    pub fn pass_to_machine(&mut self)
+        ensures { (passed : List AnyStep) × PassesTo passed self.old self.new }
+    {
+        if self.number == 0 {
+            self.pass_whole();
+        } else {
+            self.pass_each();
+        }
+    }
+
+    /// Passes to the step behind the machine's, which begins each round of schedule 0.
+    fn pass_whole(&mut self)
+        requires { self.old.number ≡ 0 }
+        ensures { (passed : List AnyStep) × PassesTo passed self.old self.new }
+    {
+        self.given = 1;
+    }
+
+    /// Passes over one step after another.
+    fn pass_each(&mut self)
+        ensures { (passed : List AnyStep) × PassesTo passed self.old self.new }
+    {
+        let mut step = self.next();
+        'others: while !is_machine(step) {
+            step = self.next();
+        }
+    }
+
+    /// Passes over steps up to and with so many of the machine's.
+    pub fn pass_turns(&mut self, turns: u64)
+        ensures { PassesTurns turns self.old self.new }
+    {
+        let mut left = turns;
+        'turns: while left > 0 {
+            self.pass_to_machine();
+            left -= 1;
+        }
     }
 }

@@ -229,11 +229,11 @@ module _ {M : Type 0} (k : MasterModel M) (start : MachineEnd M Cause) (said : S
   faulted e p fault.NoMemory taken held now kept blamed rests going = absurd blamed
 
   -- a turn that can't be taken, or that answers a fault
-  pub turn-fails : (e new : End M) (before out : List ℕ) (now : List (Option Wire)) (f : TurnFault) → e.kept ≡ None
-      → Advances k e new before out (Err f) → GoesOn k e new before out (Err f) → SendsAll k (Err f) new
+  pub turn-fails : (units : ℕ) (e new : End M) (before out : List ℕ) (now : List (Option Wire)) (f : TurnFault) → e.kept ≡ None
+      → Advances k units e new before out (Err f) → GoesOn k e new before out (Err f) → SendsAll k (Err f) new
       → (e.kept ≡ None → IsAtFront e (Err f)) → Going k start said e now → Leaves k start said new.clear (Err f) now
-  turn-fails e new before out now turn_fault.NoMemory none call goes all front going = still e now going
-  turn-fails e new before out now (turn_fault.Port f) none call goes all front going =
+  turn-fails units e new before out now turn_fault.NoMemory none call goes all front going = still e now going
+  turn-fails units e new before out now (turn_fault.Port f) none call goes all front going =
       faulted new f.port f.fault (taken_at e f.port) (held_at e f.port) now call.turns.keeps (front none) all
       (going-on e new before out now (Err (turn_fault.Port f)) (λ sent q. refl) goes going)
 

@@ -137,8 +137,8 @@ module _ {M : Type 0} (k : MasterModel M) (plan : Plan) (m : M) (n : ℕ) where
       → p < n
   step-there p old new t is turned holds =
       let waits = step-waits k p old new t is turned in
-      let call = turned.2 in
-      let had = worked-less k plan n call.units old call.mid call.worked holds in
+      let call = turned.3 in
+      let had = worked-less k plan n turned.2 old call.mid call.worked holds in
       waits-there k plan n (core_of new) (subst (λ (e : End M). Holds k plan n (core_of e)) (sym waits.1) had.0) p
       (waits-outlook k p new waits.0)
 
@@ -155,8 +155,8 @@ module _ {M : Type 0} (k : MasterModel M) (plan : Plan) (m : M) (n : ℕ) where
       → Holds k plan n (core_of new) × (remaining k plan n new < remaining k plan n old)
   read-holds p old mid new t r more is turned holds size fed =
       let waits = step-waits k p old mid t is turned in
-      let call = turned.2 in
-      let had = worked-less k plan n call.units old call.mid call.worked holds in
+      let call = turned.3 in
+      let had = worked-less k plan n turned.2 old call.mid call.worked holds in
       let mid_holds = subst (λ (e : End M). Holds k plan n (core_of e)) (sym waits.1) had.0 in
       let there = step-there p old mid t is turned holds in
       let came = subst (λ r. Fed p mid new (Ok r)) more fed in

@@ -331,8 +331,8 @@ module _ {M : Type 0} (k : MasterModel M) where
         → Holds k plan n (core_of old)
         → Holds k plan n (core_of new) × (remaining new < remaining old)
     step-moves old new t is turned holds =
-        let call = turned.2 in
-        let had = worked-less call.units old call.mid call.worked holds in
+        let call = turned.3 in
+        let had = worked-less turned.2 old call.mid call.worked holds in
         let less = moves-less call.mid new t turned.0 turned.1 None (need-moves t is) had.0 call.turns in
         let falls = turned-less call.mid new less.1 in
         let few = had.1 in
@@ -382,17 +382,17 @@ module _ {M : Type 0} (k : MasterModel M) where
   -- What a step says by what the end needs then.
 
   pub step-waits : (p : ℕ) (old new : End M) (t : Turn) → need_of t ≡ need.Bytes p → (turned : Turned k old new t)
-      → IsWaiting k p new × (new ≡ turned.2.mid)
+      → IsWaiting k p new × (new ≡ turned.3.mid)
   step-waits p old new t is turned =
-      let mid = turned.2.mid in
-      let call = subst (λ t. IsTurn k mid new turned.0 turned.1 (Ok t) None) (need-waits t p is) turned.2.turns in
+      let mid = turned.3.mid in
+      let call = subst (λ t. IsTurn k mid new turned.0 turned.1 (Ok t) None) (need-waits t p is) turned.3.turns in
       let same = waits-same p mid new turned.0 turned.1 None call in
       (subst (IsWaiting k p) (sym same) call.answers, same)
 
   pub step-stops : (old new : End M) (t : Turn) → need_of t ≡ need.Nothing → Turned k old new t → new.clear.phase ≡ Done
   step-stops old new t is turned =
-      let mid = turned.2.mid in
-      let call = subst (λ t. IsTurn k mid new turned.0 turned.1 (Ok t) None) (need-stops t is) turned.2.turns in
+      let mid = turned.3.mid in
+      let call = subst (λ t. IsTurn k mid new turned.0 turned.1 (Ok t) None) (need-stops t is) turned.3.turns in
       ap (λ (e : End M). e.clear.phase) (done-same mid new turned.0 turned.1 None call)
       ∙ turned-done mid new turned.0 turned.1 None call
 
@@ -413,9 +413,9 @@ module _ {M : Type 0} (k : MasterModel M) where
   worked-kept zero old mid worked kept = ap (λ (e : End M). e.kept) worked ∙ kept
   worked-kept (suc units) old mid (next, one, rest) kept = worked-kept units next mid rest (one []).keeps
 
-  pub step-kept : (old new : End M) (before after : List ℕ) (f : TurnFault) → Advances k old new before after (Err f)
-      → old.kept ≡ None → IsAtFront old (Err f) → KeptInRun {A = Turn} (Err f) new.kept
-  step-kept old new before after (turn_fault.Port f) call kept front =
+  pub step-kept : (units : ℕ) (old new : End M) (before after : List ℕ) (f : TurnFault)
+      → Advances k units old new before after (Err f) → old.kept ≡ None → IsAtFront old (Err f) → KeptInRun {A = Turn} (Err f) new.kept
+  step-kept units old new before after (turn_fault.Port f) call kept front =
       can-come (taken_at old f.port) (held_at old f.port) f.fault front
-  step-kept old new before after turn_fault.NoMemory call kept front =
-      ap (λ (e : End M). e.kept) call.turns.0 ∙ worked-kept call.units old call.mid call.worked kept
+  step-kept units old new before after turn_fault.NoMemory call kept front =
+      ap (λ (e : End M). e.kept) call.turns.0 ∙ worked-kept units old call.mid call.worked kept

@@ -110,7 +110,8 @@ KeepsRun {M} k old new = (start : MachineEnd M Cause) (ports : ℕ) → InRun k 
 
 -- the call took local units, and then a turn that answered this
 abbrev pub Turned : {M : Type 0} → MasterModel M → End M → End M → Turn → Type 0
-Turned k old new t = (before : List ℕ) × (after : List ℕ) × Advances k old new before after (Ok t)
+Turned k old new t =
+    (before : List ℕ) × (after : List ℕ) × (units : ℕ) × Advances k units old new before after (Ok t)
 
 -- a fault that driving answers
 abbrev pub CanCome : EndFault PacketFault → Type 0

@@ -81,7 +81,8 @@ fn step<M: Master, L: Link>(
     ensures goes { KeepsGoing M.model (length links.old) end.old end.new (map L.told links.old) (map L.told links.new) result }
 {
     out.clear();
-    let turn = match end.advance(out) {
+    let mut units = 0;
+    let turn = match end.advance(out, &mut units) {
         Ok(turn) => turn,
         Err(fault) => return Err(fault),
     };

@@ -204,6 +204,9 @@ module _ {M : Type 0} (k : MasterModel M) (law : IsMaster k) (h : MachineEnd M C
   abbrev now : M → MachineEnd M Cause
   now m = record h { master = m; tick = h.tick + (most - left); marked = h.marked && nat_eq left most }
 
+  units-are : (units : ℕ) → units + left ≡ most → units ≡ most - left
+  units-are units count = omega (arith, count)
+
   now-is : (units : ℕ) (m : M) → units + left ≡ most → now m ≡ after units h m
   now-is units m count =
       let done : h.tick + (most - left) ≡ h.tick + units = omega (arith, count) in
@@ -233,12 +236,12 @@ module _ {M : Type 0} (k : MasterModel M) (law : IsMaster k) (h : MachineEnd M C
 
     pub quiet-advances : (room : ℕ) (old core : Core M) (before out : List ℕ) (r : Result Turn NoMemory)
         → record { end = h; room = room } ≡ old → Acts k (record { end = now new; room = room }) core before out r
-        → Advances k old core before out r
+        → Advances k (most - left) old core before out r
     quiet-advances room old core before out r view acts =
-        subst (λ (x : Core M). Advances k x core before out r) view (record {
-          units = taken.units;
+        subst (λ (x : Core M). Advances k (most - left) x core before out r) view (record {
           mid = record { end = now new; room = room };
-          worked = now-worked taken.units new taken.count quiet;
+          worked = subst (λ n. HasWorked k n h (now new)) (units-are taken.units taken.count)
+              (now-worked taken.units new taken.count quiet);
           acts = acts;
         })
 
@@ -252,12 +255,12 @@ module _ {M : Type 0} (k : MasterModel M) (law : IsMaster k) (h : MachineEnd M C
     stopped-machine = now-machine taken.units new taken.count stopped
 
     pub stopped-advances : (room : ℕ) (old : Core M) (out : List ℕ) → record { end = h; room = room } ≡ old
-        → Advances k old (record { end = now new; room = room }) out out (Err e)
+        → Advances k (most - left) old (record { end = now new; room = room }) out out (Err e)
     stopped-advances room old out view =
-        subst (λ (x : Core M). Advances k x (record { end = now new; room = room }) out out (Err e)) view (record {
-          units = taken.units;
+        subst (λ (x : Core M). Advances k (most - left) x (record { end = now new; room = room }) out out (Err e)) view (record {
           mid = record { end = now new; room = room };
-          worked = now-worked taken.units new taken.count stopped;
+          worked = subst (λ n. HasWorked k n h (now new)) (units-are taken.units taken.count)
+              (now-worked taken.units new taken.count stopped);
           acts = (refl, refl);
         })
 
@@ -293,13 +296,13 @@ module _ {M : Type 0} (k : MasterModel M) (law : IsMaster k) (h : MachineEnd M C
         → Does (at_port (slice_get h.ports b.port)
         (accesses k (sending k (now taken.mid) new b.port b.access) new b.port b.access b.access.posted))
         (record { end = sending k (now taken.mid) new b.port b.access; room = room }) core before out t
-        → Advances k old core before out (Ok t)
+        → Advances k (most - left) old core before out (Ok t)
     issued-advances room old core before out t view does =
         let mid : Core M = record { end = now taken.mid; room = room } in
-        subst (λ (x : Core M). Advances k x core before out (Ok t)) view (record {
-          units = taken.units;
+        subst (λ (x : Core M). Advances k (most - left) x core before out (Ok t)) view (record {
           mid = mid;
-          worked = now-worked taken.units taken.mid taken.count taken.local;
+          worked = subst (λ n. HasWorked k n h (now taken.mid)) (units-are taken.units taken.count)
+              (now-worked taken.units taken.mid taken.count taken.local);
           acts = subst (λ (a : Act M Cause). Does a mid core before out t)
               (sym (acts-with k (now taken.mid) new (Some b) clear phase before-due issues-it.2))
               (does-access k (now taken.mid) new b.port b.access mid _ core before out t b.access.posted

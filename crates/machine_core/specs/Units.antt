@@ -17,10 +17,9 @@ HasWorked k zero h g = g ≡ h
 HasWorked {M} k (suc n) h g =
     (next : MachineEnd M Cause) × (machine_acts k h ≡ Works next) × HasWorked k n next g
 
--- Local units were taken, and then the turn that came next.
-pub record Advances {M : Type 0} (k : MasterModel M) (old new : Core M) (before after : List ℕ)
+-- So many local units were taken, and then the turn that came next.
+pub record Advances {M : Type 0} (k : MasterModel M) (units : ℕ) (old new : Core M) (before after : List ℕ)
     (r : Result Turn NoMemory) : Type 0 where
-  pub units : ℕ
   pub mid : Core M
   pub worked : HasWorked k units old.end mid.end
   pub acts : Acts k mid new before after r

@@ -199,22 +199,25 @@ impl<M: Master> MachineCore<M> {
         }
     }
 
-    /// Takes the local units that come next, up to the next boundary or access, and then one turn as `act` does.
-    /// `NoMemory` leaves the end behind the units that were done.
-    pub fn advance(&mut self, out: &mut Octets) -> Result<Turn, NoMemory>
+    /// Takes the local units that come next, up to the next boundary or access, and then one turn as `act` does. In
+    /// `units` it tells how many units came before that turn. `NoMemory` leaves the end behind the units that were done.
+    pub fn advance(&mut self, out: &mut Octets, units: &mut u64) -> Result<Turn, NoMemory>
         requires calls { 1 ≤ self.old.room }
         requires room { 4176 ≤ out.old.spare }
-        ensures advances { Advances M.model self.old self.new out.old.bytes out.new.bytes result }
+        ensures advances { Advances M.model units.new self.old self.new out.old.bytes out.new.bytes result }
         ensures clear { self.new.end.fault ≡ None }
         ensures few { length out.new.bytes ≤ length out.old.bytes + 4176 }
     {
         match self.phase {
             Phase::Run => {
-                let turn = self.run_on(out);
+                let turn = self.run_on(out, units);
                 self.is_clear();
                 turn
             }
-            _ => self.act(out),
+            _ => {
+                *units = 0;
+                self.act(out)
+            }
         }
     }
 
@@ -262,17 +265,18 @@ impl<M: Master> MachineCore<M> {
     }
 
     /// Local units up to the next boundary or access, and the turn that comes then.
-    fn run_on(&mut self, out: &mut Octets) -> Result<Turn, NoMemory>
+    fn run_on(&mut self, out: &mut Octets, units: &mut u64) -> Result<Turn, NoMemory>
         requires phase { self.old.end.phase ≡ Phase.Run }
         requires calls { 1 ≤ self.old.room }
         requires room { 4176 ≤ out.old.spare }
-        ensures advances { Advances M.model self.old self.new out.old.bytes out.new.bytes result }
+        ensures advances { Advances M.model units.new self.old self.new out.old.bytes out.new.bytes result }
         ensures few { length out.new.bytes ≤ length out.old.bytes + 4176 }
     {
         let ahead = units_ahead(&self.master, self.plan, self.tick, self.marked);
         let mut left = ahead;
         let issued = take_units(&mut self.master, &mut left);
-        self.tick += ahead - left;
+        *units = ahead - left;
+        self.tick += *units;
         self.marked &= left == ahead;
         match issued? {
             Some(bus) => {

@@ -29,9 +29,10 @@ use Rattle.machine_core.specs.Units.{Advances as CoreAdvances, HasWorked as Core
 use Rattle.machine_turns.specs.declared.fault.PortFault.{PortFault}
 use Rattle.machine_turns.specs.declared.fault.TurnFault.{TurnFault}
 use Rattle.machine_turns.specs.declared.fault.TurnFault.TheVariants as turn_fault
-use Rattle.machine_turns.specs.Ends.{Advances, End, GoesOn, HasRun, HasWorked, IsAtFront, Received}
+use Rattle.machine_turns.specs.Ends.{Advances, End, GoesOn, HasRun, HasWorked, IsAtFront, IsTurn, Received}
 use Rattle.machine_turns.specs.Ends.{Goes as IsSo, SendsAll, Turns, core_of, held_at, port_cause, received}
 use Rattle.machine_turns.specs.Runs.{machine_alone}
+use Rattle.machine_turns.specs.StepLaws.{not-acting, some-is, turned}
 use Rattle.machine_turns.specs.EndLaws.{call-all, call-runs, kept-all, kept-halts}
 use Rattle.machine_turns.proofs.Fronts.{acted-front}
 use Rattle.machine_turns.proofs.Ports.{acts-size}
@@ -167,15 +168,14 @@ module _ {M : Type 0} (k : MasterModel M) where
 
     module _ (h : MachineEnd M Cause) (o n : Core M) (before after : List ℕ) (clear : h.fault ≡ None)
         (same : o.end ≡ h) (awaits : awaited (machine_acts k h) ≡ None) where
-      pub advanced : (t : Turn) → n.end.fault ≡ None → CoreAdvances k o n before after (Ok t)
-          → Advances k (made h kept fs) (made n.end kept fs) before after (Ok t)
-      advanced t new_clear c =
-          let worked = subst (λ x. CoreWorked k c.units x c.mid.end) same c.worked in
-          let mid_clear = worked-clear c.units h c.mid.end worked clear in
+      pub advanced : (t : Turn) (units : ℕ) → n.end.fault ≡ None → CoreAdvances k units o n before after (Ok t)
+          → Advances k units (made h kept fs) (made n.end kept fs) before after (Ok t)
+      advanced t units new_clear c =
+          let worked = subst (λ x. CoreWorked k units x c.mid.end) same c.worked in
+          let mid_clear = worked-clear units h c.mid.end worked clear in
           record {
-            units = c.units;
             mid = made c.mid.end kept fs;
-            worked = worked-turns c.units h c.mid.end worked clear;
+            worked = worked-turns units h c.mid.end worked clear;
             ports = refl;
             turns = acted k (made c.mid.end kept fs) (made n.end kept fs) c.mid n before after
                 (machine_acts k c.mid.end) t (record {
@@ -187,25 +187,24 @@ module _ {M : Type 0} (k : MasterModel M) where
                   new_clear = new_clear;
                   ports = refl;
                 }) refl (acts-at k (made c.mid.end kept fs) (machine_acts k c.mid.end) none mid_clear refl)
-                (worked-awaits c.units h c.mid.end worked awaits) c.acts;
+                (worked-awaits units h c.mid.end worked awaits) c.acts;
           }
 
-      pub stopped : (e : NoMemory) → CoreAdvances k o n before after (Err e)
-          → Advances k (made h kept fs) (made n.end kept fs) before after (Err turn_fault.NoMemory)
-      stopped e c =
-          let worked = subst (λ x. CoreWorked k c.units x c.mid.end) same c.worked in
+      pub stopped : (e : NoMemory) (units : ℕ) → CoreAdvances k units o n before after (Err e)
+          → Advances k units (made h kept fs) (made n.end kept fs) before after (Err turn_fault.NoMemory)
+      stopped e units c =
+          let worked = subst (λ x. CoreWorked k units x c.mid.end) same c.worked in
           record {
-            units = c.units;
             mid = made c.mid.end kept fs;
-            worked = worked-turns c.units h c.mid.end worked clear;
+            worked = worked-turns units h c.mid.end worked clear;
             ports = refl;
             turns = (ap (λ (x : Core M). made x.end kept fs) c.acts.0, c.acts.1);
           }
 
-  pub advances-size : (o n : Core M) (before after : List ℕ) (r : Result Turn NoMemory)
-      → CoreAdvances k o n before after r → length n.end.ports ≡ length o.end.ports
-  advances-size o n before after r c =
-      acts-size k c.mid n before after r c.acts ∙ worked-size c.units o.end c.mid.end c.worked
+  pub advances-size : (units : ℕ) (o n : Core M) (before after : List ℕ) (r : Result Turn NoMemory)
+      → CoreAdvances k units o n before after r → length n.end.ports ≡ length o.end.ports
+  advances-size units o n before after r c =
+      acts-size k c.mid n before after r c.acts ∙ worked-size units o.end c.mid.end c.worked
 
 -- What stands at the front is said by the ports alone.
 
@@ -228,13 +227,13 @@ front-same e d r same front =
 
 module _ {M : Type 0} (k : MasterModel M) where
   pub advanced-front : (h : MachineEnd M Cause) (kept : Option PortFault) (fs : List Frames) (o n : Core M)
-      (before after : List ℕ) (t : Turn) → length fs ≡ length h.ports → o.end ≡ h → awaited (machine_acts k h) ≡ None
-      → CoreAdvances k o n before after (Ok t) → IsAtFront (made h kept fs) (Ok t)
-  advanced-front h kept fs o n before after t size same awaits c =
-      let worked = subst (λ x. CoreWorked k c.units x c.mid.end) same c.worked in
+      (before after : List ℕ) (t : Turn) (units : ℕ) → length fs ≡ length h.ports → o.end ≡ h → awaited (machine_acts k h) ≡ None
+      → CoreAdvances k units o n before after (Ok t) → IsAtFront (made h kept fs) (Ok t)
+  advanced-front h kept fs o n before after t units size same awaits c =
+      let worked = subst (λ x. CoreWorked k units x c.mid.end) same c.worked in
       front-same (made c.mid.end kept fs) (made h kept fs) (Ok t) refl
-      (acted-front k c.mid.end kept fs c.mid n before after t (size ∙ sym (worked-size k c.units h c.mid.end worked))
-      (worked-awaits k c.units h c.mid.end worked awaits) c.acts)
+      (acted-front k c.mid.end kept fs c.mid n before after t (size ∙ sym (worked-size k units h c.mid.end worked))
+      (worked-awaits k units h c.mid.end worked awaits) c.acts)
 
   -- A run goes on with local units, which send nothing.
   worked-run : (n : ℕ) (old mid : End M) (start : MachineEnd M Cause) (ports : ℕ) (x sent : Streams)
@@ -245,15 +244,15 @@ module _ {M : Type 0} (k : MasterModel M) where
       worked-run n next mid start ports x sent rest
       (call-runs k old next [] [] (Ok turn.Unit) (one []) (λ kept. tt) start ports x sent sent (λ q. refl) run)
 
-  module _ (old new : End M) (before after : List ℕ) (r : Result Turn TurnFault)
-      (c : Advances k old new before after r) (front : IsAtFront old r) where
+  module _ (units : ℕ) (old new : End M) (before after : List ℕ) (r : Result Turn TurnFault)
+      (c : Advances k units old new before after r) (front : IsAtFront old r) where
     mid-front : IsAtFront c.mid r
     mid-front = front-same old c.mid r c.ports front
 
     pub advance-runs : GoesOn k old new before after r
     advance-runs start ports x sent later sends run =
         call-runs k c.mid new before after r c.turns (λ kept. mid-front) start ports x sent later sends
-        (worked-run c.units old c.mid start ports x sent c.worked run)
+        (worked-run units old c.mid start ports x sent c.worked run)
 
   all-by : (mid new : End M) (before after : List ℕ) (r : Result Turn TurnFault) → Turns k mid new before after r
       → IsAtFront mid r → SendsAll k r new
@@ -272,15 +271,15 @@ module _ {M : Type 0} (k : MasterModel M) where
   all-by mid new before after (Err (turn_fault.Port f)) call front = kept-all k new f call.keeps
   all-by mid new before after (Err turn_fault.NoMemory) call front = tt
 
-  pub advance-all : (old new : End M) (before after : List ℕ) (r : Result Turn TurnFault)
-      → Advances k old new before after r → IsAtFront old r → SendsAll k r new
-  advance-all old new before after r c front =
+  pub advance-all : (units : ℕ) (old new : End M) (before after : List ℕ) (r : Result Turn TurnFault)
+      → Advances k units old new before after r → IsAtFront old r → SendsAll k r new
+  advance-all units old new before after r c front =
       all-by c.mid new before after r c.turns (front-same old c.mid r c.ports front)
 
   -- a call of turn alone
   pub no-units : (old new : End M) (before after : List ℕ) (r : Result Turn TurnFault) → Turns k old new before after r
-      → Advances k old new before after r
-  no-units old new before after r turns = record { units = 0; mid = old; worked = refl; ports = refl; turns = turns }
+      → Advances k 0 old new before after r
+  no-units old new before after r turns = record { mid = old; worked = refl; ports = refl; turns = turns }
 
   -- an end that keeps a fault
   pub kept-turns : (e : End M) (f : PortFault) (bytes : List ℕ) → e.kept ≡ Some f
@@ -294,3 +293,22 @@ module _ {M : Type 0} (k : MasterModel M) where
         (sym (ap (hub_turn_by (machine_alone k packet_codec) (fresh_hub (core_of e) (length e.ports)) (held_at e))
         (kept-halts k e f kept))) (refl, refl);
   }
+
+  -- Behind a local unit the end runs on.
+
+  unit-by : (e next : End M) (a : Act M Cause) → machine_acts k (core_of e) ≡ a
+      → answer_by k (core_of e) (λ p. option_map (λ r. r.0) (first (held_at e p))) a ≡ Some (Ok turn.Unit)
+      → IsSo (turned k (fresh_hub (core_of e) (length e.ports)) (held_at e) a) e next [] [] → next.clear.phase ≡ Run
+  unit-by e next (Works core) acts answers went =
+      ap (λ (c : MachineEnd M Cause). c.phase) went.0 ∙ (goes k (core_of e) core acts).0
+  unit-by e next (Sends p x core) acts answers went = absurd (cc (answers))
+  unit-by e next (Awaits p) acts answers went =
+      absurd (not-acting k (core_of e) (λ q. option_map (λ r. r.0) (first (held_at e q))) p turn.Unit _ (some-is _ _ answers) tt)
+  unit-by e next (Serves p core) acts answers went = absurd (cc (answers))
+  unit-by e next (Marks core) acts answers went = absurd (cc (answers))
+  unit-by e next Rests acts answers went = absurd (cc (answers))
+  unit-by e next (Fails p f) acts answers went = absurd (cc (answers))
+  unit-by e next Lost acts answers went = absurd (cc (answers))
+
+  pub unit-runs : (e next : End M) → IsTurn k e next [] [] (Ok turn.Unit) None → next.clear.phase ≡ Run
+  unit-runs e next took = unit-by e next (machine_acts k (core_of e)) refl took.answers took.goes

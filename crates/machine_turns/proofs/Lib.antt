@@ -1,4 +1,4 @@
-mod Advancing
+pub mod Advancing
 mod Fronts
 mod Ports
 mod Pulling

@@ -142,10 +142,9 @@ HasWorked k zero old new = new ≡ old
 HasWorked {M} k (suc n) old new =
     (next : End M) × ((sent : List ℕ) → IsTurn k old next sent sent (Ok turn.Unit) None) × HasWorked k n next new
 
--- A call of advance: local units were taken, which take no bytes, and then a call of turn.
-pub record Advances {M : Type 0} (k : MasterModel M) (old new : End M) (before after : List ℕ)
+-- A call of advance: so many local units were taken, which take no bytes, and then a call of turn.
+pub record Advances {M : Type 0} (k : MasterModel M) (units : ℕ) (old new : End M) (before after : List ℕ)
     (r : Result Turn TurnFault) : Type 0 where
-  pub units : ℕ
   pub mid : End M
   pub worked : HasWorked k units old mid
   pub ports : mid.ports ≡ old.ports

@@ -203,33 +203,35 @@ impl<M: Master> MachineEnd<M> {
         }
     }
 
-    /// Takes the local units that come next, up to the next boundary or access, and then one turn, as `turn` does.
-    /// Want of memory leaves the end behind the units that were taken.
-    pub fn advance(&mut self, out: &mut Octets) -> Result<Turn, TurnFault>
-        ensures advances { Advances M.model self.old self.new out.old.bytes out.new.bytes result }
+    /// Takes the local units that come next, up to the next boundary or access, and then one turn, as `turn` does. In
+    /// `units` it tells how many units came before that turn. Want of memory leaves the end behind the units that were taken.
+    pub fn advance(&mut self, out: &mut Octets, units: &mut u64) -> Result<Turn, TurnFault>
+        ensures advances { Advances M.model units.new self.old self.new out.old.bytes out.new.bytes result }
         ensures kept { (f : PortFault) → self.old.kept ≡ Some f → result ≡ Err (turn_fault.Port f) }
         ensures front { self.old.kept ≡ None → IsAtFront self.old result }
         ensures runs { GoesOn M.model self.old self.new out.old.bytes out.new.bytes result }
         ensures all { SendsAll M.model result self.new }
         ensures few { length out.new.bytes ≤ length out.old.bytes + 4176 }
     {
+        *units = 0;
         if let Some(kept) = self.fault {
             return Err(TurnFault::Port(kept));
         }
         match self.core.awaits() {
             Some(port) => self.hear_front(port),
-            None => self.act_on(out),
+            None => self.act_on(out, units),
         }
     }
 
     /// Local units, and a turn that takes no packet. All room that they can need is made first.
-    fn act_on(&mut self, out: &mut Octets) -> Result<Turn, TurnFault>
+    fn act_on(&mut self, out: &mut Octets, units: &mut u64) -> Result<Turn, TurnFault>
         requires kept { self.old.kept ≡ None }
         requires acts { awaited (machine_acts M.model self.old.clear) ≡ None }
-        ensures advances { Advances M.model self.old self.new out.old.bytes out.new.bytes result }
+        ensures advances { Advances M.model units.new self.old self.new out.old.bytes out.new.bytes result }
         ensures front { IsAtFront self.old result }
         ensures few { length out.new.bytes ≤ length out.old.bytes + 4176 }
     {
+        *units = 0;
         match out.reserve(MOST_SENT) {
             Ok(()) => {}
             Err(NoMemory) => return Err(TurnFault::NoMemory),
@@ -238,7 +240,7 @@ impl<M: Master> MachineEnd<M> {
             Ok(()) => {}
             Err(NoMemory) => return Err(TurnFault::NoMemory),
         }
-        let turn = match self.core.advance(out) {
+        let turn = match self.core.advance(out, units) {
             Ok(turn) => turn,
             Err(NoMemory) => return Err(TurnFault::NoMemory),
         };

@@ -8,12 +8,12 @@ use Rattle.end_machine.proofs.driving.step.Goals as goal
 
 pub returns-in-Err-clause-kept : goal.returns-in-Err-clause-kept
 returns-in-Err-clause-kept g c =
-    step-kept g.M.Master.model c.args.end.now c.advance.new.self c.clear.new.self.bytes c.advance.new.out.bytes
+    step-kept g.M.Master.model c.advance.new.units c.args.end.now c.advance.new.self c.clear.new.self.bytes c.advance.new.out.bytes
     c.in-Err.fault c.in-Err.ensures.advances c.requires.kept (c.in-Err.ensures.front c.requires.kept)
 
 pub returns-in-Err-clause-goes : goal.returns-in-Err-clause-goes
 returns-in-Err-clause-goes g c = λ m plan said going.
-    turn-fails g.M.Master.model _ said c.args.end.now c.advance.new.self c.clear.new.self.bytes c.advance.new.out.bytes _
+    turn-fails g.M.Master.model _ said c.advance.new.units c.args.end.now c.advance.new.self c.clear.new.self.bytes c.advance.new.out.bytes _
     c.in-Err.fault
     c.requires.kept c.in-Err.ensures.advances c.in-Err.ensures.runs c.in-Err.ensures.all c.in-Err.ensures.front going
 

@@ -16,7 +16,7 @@ invariant_of-self c =
     let f = c.self.inside in
     let fits = c.self.invariant in
     let left = length-left f.number f.ports f.draws.x f.first f.given c.args.self.now fits.0 fits.1 c.self.view_is in
-    (fits.0, omega arith)
+    (fits.0, omega arith, fits.2)
 
 pub returns : goal.returns
 returns c =

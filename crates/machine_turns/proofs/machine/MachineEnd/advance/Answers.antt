@@ -30,10 +30,10 @@ returns-in-Some-awaits-clause-all g c =
 
 pub returns-in-None-clause-runs : goal.returns-in-None-clause-runs
 returns-in-None-clause-runs g c =
-    advance-runs g.M.Master.model c.args.self.now c.act_on.new.self c.args.out.now.bytes c.act_on.new.out.bytes
+    advance-runs g.M.Master.model c.act_on.new.units c.args.self.now c.act_on.new.self c.args.out.now.bytes c.act_on.new.out.bytes
     c.act_on.result c.act_on.ensures.advances c.act_on.ensures.front
 
 pub returns-in-None-clause-all : goal.returns-in-None-clause-all
 returns-in-None-clause-all g c =
-    advance-all g.M.Master.model c.args.self.now c.act_on.new.self c.args.out.now.bytes c.act_on.new.out.bytes
+    advance-all g.M.Master.model c.act_on.new.units c.args.self.now c.act_on.new.self c.args.out.now.bytes c.act_on.new.out.bytes
     c.act_on.result c.act_on.ensures.advances c.act_on.ensures.front
