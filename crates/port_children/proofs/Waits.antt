@@ -1,6 +1,7 @@
 -- Waiting for one child more.
-use Rattle.std.proofs.Common.{ℕ, ◌≡◌, ◌+◌, ◌<◌, ◌≤◌, zero, suc, List, [], ◌∷◌, ◌++◌, length, take, drop, refl, ap, sym, ◌∙◌, subst, arith, Bool, true, false, cond}
+use Rattle.std.proofs.Common.{ℕ, ◌≡◌, ◌+◌, ◌<◌, ◌≤◌, zero, suc, List, [], ◌∷◌, ◌++◌, length, take, drop, refl, ap, sym, ◌∙◌, subst, arith, get_or, true, false, add-one, drop-cons}
 use Rattle.std.specs.Prelude.{IfSome, Option, Some, None}
+use Rattle.std.specs.Result.{is_ok}
 use Rattle.std.specs.declared.result.Result.{Result}
 use Rattle.std.specs.declared.result.Result.TheVariants.{Ok, Err}
 use Rattle.cos_base.specs.Counts.{Rose}
@@ -66,19 +67,35 @@ told-more (Some o) (Some p) (Some q) ns n gs g each first un next =
     next ∙ ap (λ d. with_wait d n g) first ∙ sym (waits-more o ns n gs g each)
 
 -- children were waited for, and then one more
-pub waited-more : (x y z : ℕ) (a b c : Option Children) (ns : List ℕ) (n : ℕ) (r s : Result Unit WaitFault)
-    → IsWaited ns (between x y a b) r → x ≤ y → IsOneWaited (length ns) n (between y z b c) s → y ≤ z
-    → IsWaited (ns ++ n ∷ []) (between x z a c) (first_of_both r s)
-waited-more x y z a b c ns n r s first grew next grows = record {
-  given = first.given ++ next.given ∷ [];
-  each = omega (arith, length-append first.given (next.given ∷ []), length-append ns (n ∷ []), first.each);
-  comes = comes-more 0 first.given next.given r s first.comes
-      (let at : length ns ≡ 0 + length first.given = omega (arith, first.each) in
-      subst (λ p. ComesTo p (next.given ∷ []) s) at next.comes);
-  blames = blames-grow x y z a b c r s first.blames grew next.blames grows;
-  waits = told-more a b c ns n first.given next.given first.each first.waits next.untold next.waits;
-  untold = λ none. next.untold (first.untold none);
-}
+pub waited-more : (x y z : ℕ) (a b c : Option Children) (ns : List ℕ) (n port : ℕ) (all : List ℕ)
+    (r s t : Result Unit WaitFault) → all ≡ ns ++ n ∷ [] → port ≡ length ns → t ≡ first_of_both r s
+    → IsWaited ns (between x y a b) r → x ≤ y → IsOneWaited port n (between y z b c) s → y ≤ z
+    → IsWaited all (between x z a c) t
+waited-more x y z a b c ns n port all r s t all-are at is first grew next grows =
+    subst (λ l. IsWaited l (between x z a c) t) (sym all-are)
+    (subst (λ u. IsWaited (ns ++ n ∷ []) (between x z a c) u) (sym is)
+    (record {
+      given = first.given ++ next.given ∷ [];
+      each = omega (arith, length-append first.given (next.given ∷ []), length-append ns (n ∷ []), first.each);
+      comes = comes-more 0 first.given next.given r s first.comes
+          (let here : port ≡ 0 + length first.given = omega (arith, at, first.each) in
+          subst (λ p. ComesTo p (next.given ∷ []) s) here next.comes);
+      blames = blames-grow x y z a b c r s first.blames grew next.blames grows;
+      waits = told-more a b c ns n first.given next.given first.each first.waits next.untold next.waits;
+      untold = λ none. next.untold (first.untold none);
+    }))
+
+-- what the waits came to so far: that of the last where those before it came to status 0
+pub came-ok : (r s t : Result Unit WaitFault) → is_ok r ≡ true → t ≡ s → t ≡ first_of_both r s
+came-ok (Ok u) s t ok is = is
+came-ok (Err f) s t ok is = absurd (cc)
+
+pub came-err : (r s t : Result Unit WaitFault) → is_ok r ≡ false → t ≡ r → t ≡ first_of_both r s
+came-err (Ok u) s t ok is = absurd (cc)
+came-err (Err f) s t ok is = is
+
+pub drop-next : (ns : List ℕ) (i : ℕ) → i < length ns → drop i ns ≡ get_or ns i 0 ∷ drop (i + 1) ns
+drop-next ns i small = rw (add-one, drop-cons ns i 0)
 
 pub waited-none : (x : ℕ) (a : Option Children) → IsWaited [] (between x x a a) (Ok tt)
 waited-none x None = record { given = []; each = refl; comes = refl; blames = refl; waits = tt; untold = λ e. refl }

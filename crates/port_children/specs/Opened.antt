@@ -52,6 +52,8 @@ pub record IsOpened {L : Type 0} (sockets : List (List ℕ)) (words : List (List
   pub each_child : length numbers ≡ length sockets
   pub gives : Gives sockets links net.old net.new
   pub starts : StartsAll words numbers children.old children.new
+  -- what isn't told isn't told later
+  pub untold : children.old ≡ None → children.new ≡ None
 
 -- The network is blamed only where its count rose, and so is the spawner.
 abbrev pub Blames : {L : Type 0} → Seen (Coming L) → Seen Children → OpenFault → Type 0

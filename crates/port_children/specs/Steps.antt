@@ -53,6 +53,7 @@ pub record AreStarted (words : List (List (List ℕ))) (numbers : List ℕ) (chi
   pub stands : CountStands children
   pub starts : StartsAll words numbers children.old children.new
   pub each : length numbers ≡ length words
+  pub untold : children.old ≡ None → children.new ≡ None
 
 -- None was: the spawner failed, or memory was short.
 abbrev pub SpawnBlames : Seen Children → OpenFault → Type 0
