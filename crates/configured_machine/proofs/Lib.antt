@@ -1,3 +1,3 @@
 mod Having
 mod Naming
-mod Sides
+pub mod Sides

@@ -24,8 +24,8 @@ use Rattle.port_children.specs.declared.fault.OpenFault.TheVariants as opening
 use Rattle.port_children.specs.Opened.{HasGiven, IsOpened, IsUnopened, OpensSoundly, with_all}
 use Rattle.port_children.specs.Peers.{sockets_of, words_from}
 use Rattle.rp_packet.specs.declared.fault.PacketFault.{PacketFault}
-use Rattle.cosim_run.specs.Conversations.{Converses, ConversesSoundly, IsAll, IsConversation, IsDrivenOver, Machine, Reach}
-use Rattle.cosim_run.specs.Conversations.{RunEnded, undriven, undriven_at, unopened}
+use Rattle.cosim_run.specs.Conversations.{Converses, IsAll, IsConversation, IsDrivenOver, Machine, Reach}
+use Rattle.cosim_run.specs.Conversations.{RunEnded, StopsSoundly, undriven, undriven_at, unopened}
 
 words-each : (program config : List ℕ) (port : ℕ) (sockets : List (List ℕ))
     → length (words_from program config port sockets) ≡ length sockets
@@ -124,19 +124,24 @@ module _ {L : Type 0} (program config : List ℕ) (view : NetView L) (p : Parts)
     few = is.few_links;
     gives = is.gives;
     starts = is.starts;
-    converses = unopened-converses _ left f links is;
+    converses = unopened-converses (record {
+      links = links;
+      named = is.names;
+      unnamed = is.unnamed;
+      started = is.started;
+      unstarted = is.unstarted;
+    }) left f links is;
   }
 
-  pub unopened-soundly : (left : Machine) (to : Reach L) (f : OpenFault) → OpensSoundly sockets net.old (Err f)
-      → ConversesSoundly view p net children to left (Err (unopened f))
-  unopened-soundly left to (opening.Net n) few = by net.old few
+  pub unopened-soundly : (f : OpenFault) → OpensSoundly sockets net.old (Err f) → StopsSoundly p net (unopened f)
+  unopened-soundly (opening.Net n) few = by net.old few
     where
       by : (o : Option (Coming L)) → IsSomeAnd o (λ t. length t.coming < length sockets)
           → IsSomeAnd o (λ t. length t.coming < length p.config.ports)
       by None is = is
       by (Some t) is = subst (λ n. length t.coming < n) (length-map p.config.ports _) is
-  unopened-soundly left to (opening.Spawner n) few = few
-  unopened-soundly left to opening.NoMemory few = tt
+  unopened-soundly (opening.Spawner n) few = few
+  unopened-soundly opening.NoMemory few = tt
 
   -- there was no memory for the machine's end
   pub nothing-talks : net.new ≡ net.old → net.now ≡ net.before → children.new ≡ children.old
@@ -170,25 +175,24 @@ module _ {L : Type 0} (program config : List ℕ) (view : NetView L) (p : Parts)
           → IsDrivenOver view.told p links left (Err (turn_fault.Port (record { port = port; fault = x })))
           → Converses view p net children (whole links) left (Err (undriven_at port x))
       by port (fault.Link n) moved driven =
-          (all.0, all.1, all.2, λ l at. rose-at (map view.count links) now port n (view.count l)
+          (all, λ l at. rose-at (map view.count links) now port n (view.count l)
           (map-at view.count links port l at) moved, stands, children_stand)
       by port fault.NoMemory moved driven = (stands, children_stand)
-      by port (fault.Ended n) moved driven = (all.0, all.1, all.2, tt, driven, stands, children_stand)
-      by port (fault.Truncated a b) moved driven = (all.0, all.1, all.2, tt, driven, stands, children_stand)
-      by port (fault.Malformed f) moved driven = (all.0, all.1, all.2, tt, driven, stands, children_stand)
-      by port (fault.Session f) moved driven = (all.0, all.1, all.2, tt, driven, stands, children_stand)
-      by port (fault.TooMuch n) moved driven = (all.0, all.1, all.2, tt, driven, stands, children_stand)
-      by port (fault.LateWant at got) moved driven = (all.0, all.1, all.2, tt, driven, stands, children_stand)
-      by port (fault.Astray cmd) moved driven = (all.0, all.1, all.2, tt, driven, stands, children_stand)
+      by port (fault.Ended n) moved driven = (all, tt, driven, stands, children_stand)
+      by port (fault.Truncated a b) moved driven = (all, tt, driven, stands, children_stand)
+      by port (fault.Malformed f) moved driven = (all, tt, driven, stands, children_stand)
+      by port (fault.Session f) moved driven = (all, tt, driven, stands, children_stand)
+      by port (fault.TooMuch n) moved driven = (all, tt, driven, stands, children_stand)
+      by port (fault.LateWant at got) moved driven = (all, tt, driven, stands, children_stand)
+      by port (fault.Astray cmd) moved driven = (all, tt, driven, stands, children_stand)
 
-  pub undriven-soundly : (left : Machine) (to : Reach L) (f : TurnFault) → NotLink {A = Unit {0}} (Err f)
-      → ConversesSoundly view p net children to left (Err (undriven f))
-  undriven-soundly left to turn_fault.NoMemory none = tt
-  undriven-soundly left to (turn_fault.Port f) none = by f.port f.fault none
+  pub undriven-soundly : (f : TurnFault) → NotLink {A = Unit {0}} (Err f) → StopsSoundly p net (undriven f)
+  undriven-soundly turn_fault.NoMemory none = tt
+  undriven-soundly (turn_fault.Port f) none = by f.port f.fault none
     where
       by : (port : ℕ) (x : EndFault PacketFault)
           → NotLink {A = Unit {0}} (Err (turn_fault.Port (record { port = port; fault = x })))
-          → ConversesSoundly view p net children to left (Err (undriven_at port x))
+          → StopsSoundly p net (undriven_at port x)
       by port (fault.Link n) none = absurd (cc (none))
       by port fault.NoMemory none = tt
       by port (fault.Ended n) none = tt

@@ -1,5 +1,5 @@
 -- Each call of a machine end has a line, whatever its links say.
-use Rattle.std.specs.Prelude.{All, ◌&&◌, map, nat_le, slice_get}
+use Rattle.std.specs.Prelude.{All, ◌&&◌, length, map, nat_le, nat_lt, slice_get}
 use Rattle.std.proofs.Common.{ℕ, ◌≡◌, ◌+◌, ◌<◌, ◌≤◌, zero, suc, Bool, true, false, List, [], ◌∷◌, ◌++◌, Option, Some, None}
 use Rattle.std.proofs.Common.{Result, Ok, Err, refl, sym, subst, arith}
 use Rattle.std.proofs.lemmas.Bool.{leb-true}
@@ -29,7 +29,7 @@ use Rattle.ends_model.specs.MachineTurn.{after_greet, after_sync, answered, at_p
 use Rattle.ends_model.specs.MachineTurn.{greets, held_time, hold_request, if_call, if_over, is_due, is_master_size}
 use Rattle.ends_model.specs.MachineTurn.{is_unknown, machine_acts, machine_hears, machine_hears_at, machine_judges}
 use Rattle.ends_model.specs.MachineTurn.{machine_outlook, machine_takes, met, on_event, outlook_of, runs, serve_body}
-use Rattle.ends_model.specs.MachineTurn.{serve_read, serve_write, serves, serves_held, serves_least, syncs, to_meet, works}
+use Rattle.ends_model.specs.MachineTurn.{greeted, put_port, requested, serve_read, serve_write, serves, serves_held, serves_least, syncs, to_meet, works}
 use Rattle.ends_model.specs.MachineTurn.Act.{Works, Sends, Awaits, Serves, Marks, Rests, Fails, Lost}
 use Rattle.ends_model.specs.World.{machine_start}
 use Rattle.rp_packet.specs.declared.fault.Cause.{Cause}
@@ -118,10 +118,12 @@ module _ {M : Type 0} (k : MasterModel M) where
   works-lines : (h : H) (m : M) (o : Option Bus) → HaveLines h → LeavesLines (works k h m o)
   works-lines h m None have = have
   works-lines h m (Some b) have =
-      at-port _ (accesses k h m b.port b.access b.access.posted) (λ q. access-lines h m b.port b.access b.access.posted q have)
+      at-port (slice_get h.ports b.port) (accesses k h m b.port b.access b.access.posted)
+      (λ q. access-lines h m b.port b.access b.access.posted q have)
 
   syncs-lines : (h : H) (p : ℕ) (q : PortEnd) → HaveLines h → LeavesLines (syncs k h p q)
-  syncs-lines h p q have = sync-lines _ p _ have
+  syncs-lines h p q have =
+      sync-lines (put_port k h p (requested q false (Sync h.tick) 0 h.tick)) p (nat_lt (suc p) (length h.ports)) have
 
   runs-lines : (h : H) (due : Bool) (qs : List PortEnd) → HaveLines h → LeavesLines (runs k h due qs)
   runs-lines h true [] have = have
@@ -142,18 +144,22 @@ module _ {M : Type 0} (k : MasterModel M) where
 
   least-lines : (h : H) (o : Option (ℕ × ℕ)) → HaveLines h → LeavesLines (serves_least k h o)
   least-lines h None have = tt
-  least-lines h (Some r) have = at-port _ _ (λ q. held-lines h r.0 q q.held have)
+  least-lines h (Some r) have =
+      at-port (slice_get h.ports r.0) (λ (q : PortEnd). serves_held k h r.0 q q.held)
+      (λ q. held-lines h r.0 q q.held have)
 
   gathers-lines : (h : H) (o : Option ℕ) → HaveLines h → LeavesLines (gathers k h o)
   gathers-lines h (Some p) have = tt
   gathers-lines h None have = least-lines h (least (map held_time h.ports)) have
 
   phase-lines : (h : H) (phase : Phase) → HaveLines h → LeavesLines (acts_in k h phase)
-  phase-lines h (Greet p) have = at-port _ (greets k h p) (λ q. greet-lines _ p _ have)
+  phase-lines h (Greet p) have =
+      at-port (slice_get h.ports p) (greets k h p)
+      (λ q. greet-lines (put_port k h p (greeted q)) p (nat_lt (suc p) (length h.ports)) have)
   phase-lines h (Meet p) have = tt
   phase-lines h Run have = runs-lines h (is_due k h) h.ports have
   phase-lines h (AnswerFrom p a) have = tt
-  phase-lines h (SyncTo p) have = at-port _ (syncs k h p) (λ q. syncs-lines h p q have)
+  phase-lines h (SyncTo p) have = at-port (slice_get h.ports p) (syncs k h p) (λ q. syncs-lines h p q have)
   phase-lines h Gather have = gathers-lines h (first_true (map is_unknown h.ports)) have
   phase-lines h Done have = tt
 

@@ -1,5 +1,5 @@
 -- The run of a machine with its children: what holds after the waits.
-use Rattle.std.specs.Prelude.{All, IfSome, IsSomeAnd}
+use Rattle.std.specs.Prelude.{IfSome, IsSomeAnd}
 use Rattle.std.proofs.Common.{◌≡◌, ℕ, ◌<◌, ◌≤◌, List, [], ◌∷◌, ◌++◌, length, map, refl, sym, ap, ◌∙◌, subst, arith}
 use Rattle.std.proofs.Common.{Result, Ok, Err}
 use Rattle.std.specs.declared.option.Option.{Option}
@@ -8,14 +8,16 @@ use Rattle.std.proofs.lemmas.List.{length-map}
 use Rattle.cos_base.specs.Links.{Wire}
 use Rattle.cos_base.specs.Networks.{Coming}
 use Rattle.cos_children.specs.Children.{AreChildren, Children}
+use Rattle.cos_config.specs.declared.config.Config.{Config as Settings}
 use Rattle.cos_config.specs.declared.config.PortConfig.{PortConfig}
+use Rattle.cos_config.specs.declared.config.Sockets.TheVariants.{All}
 use Rattle.cos_config.specs.Plans.{plan_of}
 use Rattle.cos_parts.specs.declared.any_device.AnyDevice.{AnyDevice}
 use Rattle.cos_parts.specs.declared.any_master.AnyMaster.{AnyMaster}
 use Rattle.cos_parts.specs.AnyDevices as devices
 use Rattle.cos_parts.specs.AnyMasters as masters
 use Rattle.configured_machine.specs.declared.parts.Parts.{Parts}
-use Rattle.configured_machine.specs.Configured.{MayRun}
+use Rattle.configured_machine.specs.Configured.{AreParts, MayRun, machine_names}
 use Rattle.configured_machine.proofs.Sides.{sides-devices, sides-each}
 use Rattle.cosim_ends.specs.Sides.{sides_of}
 use Rattle.cosim_model.specs.Direct.{Direct, direct}
@@ -26,7 +28,10 @@ use Rattle.every_schedule.specs.Schedules.{IsHonest}
 use Rattle.outcomes.specs.declared.object.Object.TheVariants as object
 use Rattle.outcomes.specs.declared.stop.Stop.{Stop}
 use Rattle.outcomes.specs.declared.stop.Stop.TheVariants.{Refused, Outside, NoMemory}
+use Rattle.outcomes.specs.declared.failures.OutFailure.{OutFailure}
+use Rattle.outcomes.specs.Asked.{AsksAll}
 use Rattle.outcomes.specs.Seen.{Seen, IsUntouched}
+use Rattle.outcomes.specs.Steps.{IsPrinted, IsRoomFor}
 use Rattle.port_children.specs.declared.fault.WaitFault.{WaitFault}
 use Rattle.port_children.specs.declared.fault.WaitFault.TheVariants as wait
 use Rattle.port_children.specs.ChildLaws.{all-run, as-before}
@@ -34,10 +39,14 @@ use Rattle.port_children.specs.Opened.{with_all}
 use Rattle.port_children.specs.Waited.{AllRun, Given, IsWaited, NotSpawner, with_waits}
 use Rattle.rp_packet.specs.Streams.{packet_codec}
 use Rattle.run_texts.specs.Texts.{run_lines}
+use Rattle.transcript.specs.ClosingLines.{run_text}
 use Rattle.cosim_run.specs.declared.refusal.RunRefusal.{RunRefusal}
-use Rattle.cosim_run.specs.Conversations.{Converses, ConversesSoundly, IsConversation, IsDrivenOver, Machine, RunEnded}
-use Rattle.cosim_run.specs.Runs.{EndsAfter, IfDone, PrintsDirectly, WithChildren, lines_of, unended}
-use Rattle.cosim_run.specs.Steps.{StopsBy, StopsSoundly}
+use Rattle.cosim_run.specs.Conversations.{IsConversation, IsDrivenOver, Machine, RunEnded, StopsSoundly}
+use Rattle.cosim_run.specs.declared.command.Finished.{Finished}
+use Rattle.cosim_run.specs.declared.conversation.Driven.{Driven}
+use Rattle.cosim_run.specs.Runs.{EndsAfter, IfDone, IsRun, Prints, PrintsDirectly, RunView, RunsSoundly, WithChildren}
+use Rattle.cosim_run.specs.Runs.{lines_of, unended}
+use Rattle.cosim_run.specs.Steps.{IsFinished, RanIll, RanWell, StopsBy}
 
 -- The lines of an end that was left as the direct machine is.
 lines-same : (left : Machine) (r : Direct AnyMaster AnyDevice) (ports : List PortConfig) → left.master ≡ r.master
@@ -133,25 +142,12 @@ module _ {L : Type 0} (program config : List ℕ) (view : NetView L) (p : Parts)
           subst (AllRun numbers) (sym starts)
           (all-run talks.to.started numbers o (subst AreChildren starts are) talks.each)
 
-  -- What is blamed soundly.
-
-  pub stops-soundly : (children whole : Seen Children) (numbers : List ℕ) (left : Machine) (e : Stop RunRefusal)
-      → (talks : IsConversation program config view p net children numbers left (Err e))
-      → ConversesSoundly view p net children talks.to left (Err e)
-      → StopsSoundly program config view p net whole e
-  stops-soundly children whole numbers left (Refused r) talks soundly = tt
-  stops-soundly children whole numbers left NoMemory talks soundly = tt
-  stops-soundly children whole numbers left (Outside object.Net n) talks soundly = soundly
-  stops-soundly children whole numbers left (Outside object.Spawner n) talks soundly = soundly
-  stops-soundly children whole numbers left (Outside (object.Link port) n) talks soundly = soundly
-  stops-soundly children whole numbers left (Outside object.Files n) talks soundly = talks.converses
-  stops-soundly children whole numbers left (Outside object.Out n) talks soundly = talks.converses
-
-  pub ends-soundly : (whole : Seen Children) (f : WaitFault) → NotSpawner (Err f)
-      → StopsSoundly program config view p net whole (unended f)
-  ends-soundly whole (wait.Status port status) none = tt
-  ends-soundly whole (wait.Spawner n) none = none
-  ends-soundly whole wait.NoMemory none = tt
+-- What is blamed soundly.
+pub ends-soundly : {L : Type 0} (p : Parts) (net : Seen (Coming L)) (f : WaitFault) → NotSpawner (Err f)
+    → StopsSoundly p net (unended f)
+ends-soundly p net (wait.Status port status) none = tt
+ends-soundly p net (wait.Spawner n) none = none
+ends-soundly p net wait.NoMemory none = tt
 
 -- The first fault ends the command.
 pub stops-end : (out : Seen (List ℕ)) (text : List ℕ) (driven : RunEnded) (waited : Result Unit WaitFault) (e : Stop RunRefusal)
@@ -159,3 +155,73 @@ pub stops-end : (out : Seen (List ℕ)) (text : List ℕ) (driven : RunEnded) (w
 stops-end out text (Err f) waited e stops same = (ap (λ x. Err x) stops, same)
 stops-end out text (Ok u) (Err f) e stops same = (ap (λ x. Err x) stops, same)
 stops-end out text (Ok u) (Ok w) e stops same = absurd stops
+
+-- The command.
+
+module _ {L : Type 0} (config program : List ℕ) (v : RunView L) (p : Parts) (read : AreParts All v.files config p)
+    (asks : AsksAll v.names (machine_names All config)) where
+  stops-runs : (text : List ℕ) (e : Stop RunRefusal) → StopsSoundly p v.net e → RunsSoundly v p text (Err e)
+  stops-runs text (Refused r) soundly = tt
+  stops-runs text NoMemory soundly = tt
+  stops-runs text (Outside object.Net n) soundly = soundly
+  stops-runs text (Outside object.Spawner n) soundly = soundly
+  stops-runs text (Outside (object.Link port) n) soundly = soundly
+  stops-runs text (Outside object.Files n) soundly = soundly
+  stops-runs text (Outside object.Out n) soundly = absurd soundly
+
+  -- something stands against it
+  pub ill-runs : (e : Stop RunRefusal) → RanIll program config v.links p v.net v.children e → IsUntouched v.out
+      → (v.links.is_sound → v.sound_children → StopsSoundly p v.net e) → IsRun config program v (Err e)
+  ill-runs e ill same soundly = record {
+    parts = p;
+    read = read;
+    asks = asks;
+    left = ill.left;
+    driven = ill.driven;
+    waited = ill.waited;
+    peers = ill.peers;
+    ends = stops-end v.out (lines_of ill.left p.config.ports) ill.driven ill.waited e ill.stops same;
+    soundly = λ out net children. stops-runs (lines_of ill.left p.config.ports) e (soundly net children);
+  }
+
+  -- all went well up to the text
+  well-runs : (d : Driven) (r : RunEnded) → RanWell program config v.links p v.net v.children d
+      → Prints v.out (lines_of d.end.clear p.config.ports) r
+      → (v.sound_out → RunsSoundly v p (lines_of d.end.clear p.config.ports) r) → IsRun config program v r
+  well-runs d r well prints soundly = record {
+    parts = p;
+    read = read;
+    asks = asks;
+    left = d.end.clear;
+    driven = Ok tt;
+    waited = Ok tt;
+    peers = well.peers;
+    ends = prints;
+    soundly = λ out net children. soundly out;
+  }
+
+  pub well-stops : (d : Driven) → RanWell program config v.links p v.net v.children d → IsUntouched v.out
+      → IsRun config program v (Err NoMemory)
+  well-stops d well same = well-runs d (Err NoMemory) well same (λ out. tt)
+
+  printed-text : (d : Driven) (f : Finished) → RanWell program config v.links p v.net v.children d → IsFinished d f
+      → run_text f.driven.end.clear.calls f.end ≡ lines_of d.end.clear p.config.ports
+  printed-text d f well finished = finished.text ∙ ap (λ (c : Settings). lines_of d.end.clear c.ports) well.settings
+
+  pub well-prints : (d : Driven) (f : Finished) → RanWell program config v.links p v.net v.children d → IsFinished d f
+      → IsPrinted v.out (run_text f.driven.end.clear.calls f.end) (Ok tt)
+      → (v.sound_out → IsRoomFor v.room (run_text f.driven.end.clear.calls f.end) (Ok tt))
+      → IsRun config program v (Ok tt)
+  well-prints d f well finished printed fits =
+      let same = printed-text d f well finished in
+      well-runs d (Ok tt) well (subst (λ t. IsPrinted v.out t (Ok tt)) same printed)
+      (λ out. subst (λ t. IsRoomFor v.room t (Ok tt)) same (fits out))
+
+  pub well-fails : (d : Driven) (f : Finished) (e : OutFailure) → RanWell program config v.links p v.net v.children d
+      → IsFinished d f → IsPrinted v.out (run_text f.driven.end.clear.calls f.end) (Err e)
+      → (v.sound_out → IsRoomFor v.room (run_text f.driven.end.clear.calls f.end) (Err e))
+      → IsRun config program v (Err (Outside object.Out e.count))
+  well-fails d f e well finished printed fits =
+      let same = printed-text d f well finished in
+      well-runs d (Err (Outside object.Out e.count)) well (subst (λ t. IsPrinted v.out t (Err e)) same printed)
+      (λ out. subst (λ t. IsRoomFor v.room t (Err e)) same (fits out))

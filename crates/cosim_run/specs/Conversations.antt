@@ -93,17 +93,15 @@ module _ {L : Type 0} (view : NetView L) (p : Parts) (net : Seen (Coming L)) (ch
   Converses (Err (Outside object.Out n)) = ⊥
   Converses (Err NoMemory) = CountStands net × CountStands children
 
-  -- Over sound objects the network is blamed only where fewer links are to come than there are ports, and no link and
-  -- not the spawner.
-  abbrev pub ConversesSoundly : RunEnded → Type 0
-  ConversesSoundly (Err (Outside object.Net n)) = IsSomeAnd net.old (λ t. length t.coming < length p.config.ports)
-  ConversesSoundly (Err (Outside object.Spawner n)) = ⊥
-  ConversesSoundly (Err (Outside (object.Link port) n)) = ⊥
-  ConversesSoundly (Err (Outside object.Files n)) = Unit {0}
-  ConversesSoundly (Err (Outside object.Out n)) = Unit {0}
-  ConversesSoundly (Ok u) = Unit {0}
-  ConversesSoundly (Err (Refused r)) = Unit {0}
-  ConversesSoundly (Err NoMemory) = Unit {0}
+-- Over sound objects the network is blamed only where fewer links are to come than there are ports, and nothing else is.
+abbrev pub StopsSoundly : {L : Type 0} → Parts → Seen (Coming L) → Stop RunRefusal → Type 0
+StopsSoundly p net (Outside object.Net n) = IsSomeAnd net.old (λ t. length t.coming < length p.config.ports)
+StopsSoundly p net (Outside object.Spawner n) = ⊥
+StopsSoundly p net (Outside (object.Link port) n) = ⊥
+StopsSoundly p net (Outside object.Files n) = ⊥
+StopsSoundly p net (Outside object.Out n) = ⊥
+StopsSoundly p net (Refused r) = Unit {0}
+StopsSoundly p net NoMemory = Unit {0}
 
 -- how driving ends the command
 abbrev pub undriven_at : ℕ → EndFault PacketFault → Stop RunRefusal

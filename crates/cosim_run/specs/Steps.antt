@@ -1,5 +1,5 @@
 -- What the steps of `run` come to.
-use Rattle.std.specs.Prelude.{◌≡◌, ℕ, ◌<◌, List, length, IsSomeAnd}
+use Rattle.std.specs.Prelude.{◌≡◌, ℕ, List}
 use Rattle.std.specs.declared.result.Result.{Result}
 use Rattle.std.specs.declared.result.Result.TheVariants.{Ok, Err}
 use Rattle.cos_base.specs.Networks.{Coming}
@@ -61,16 +61,6 @@ module _ {L : Type 0} (program config : List ℕ) (view : NetView L) (p : Parts)
     pub waited : Result Unit WaitFault
     pub peers : WithChildren program config view p net children left driven waited
     pub stops : StopsBy driven waited e
-
-  -- Over sound objects the network is blamed only where fewer links are to come than there are ports, and nothing else.
-  abbrev pub StopsSoundly : Stop RunRefusal → Type 0
-  StopsSoundly (Outside object.Net n) = IsSomeAnd net.old (λ t. length t.coming < length p.config.ports)
-  StopsSoundly (Outside object.Spawner n) = ⊥
-  StopsSoundly (Outside (object.Link port) n) = ⊥
-  StopsSoundly (Outside object.Files n) = ⊥
-  StopsSoundly (Outside object.Out n) = ⊥
-  StopsSoundly (Refused r) = Unit {0}
-  StopsSoundly NoMemory = Unit {0}
 
 -- What is printed of a machine that was driven.
 pub record IsFinished (d : Driven) (f : Finished) : Type 0 where

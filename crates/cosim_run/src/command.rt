@@ -6,8 +6,9 @@ ghost use Rattle.outcomes.specs.Seen.{seen};
 ghost use Rattle.transcript.specs.CallLines.{HasLine};
 ghost use Rattle.transcript.specs.ClosingLines.{run_text};
 ghost use Rattle.outcomes.specs.Steps.{IsPrinted, IsRoomFor};
+ghost use Rattle.cosim_run.specs.Conversations.{StopsSoundly};
 ghost use Rattle.cosim_run.specs.Runs.{Runs, unended};
-ghost use Rattle.cosim_run.specs.Steps.{IsFinished, RanIll, RanWell, StopsSoundly, unread};
+ghost use Rattle.cosim_run.specs.Steps.{IsFinished, RanIll, RanWell, unread};
 
 use crate::conversation::{Driven, converse};
 use crate::refusal::RunRefusal;
@@ -76,9 +77,8 @@ fn run_parts<N: Network, S: Spawner>(
         (record { told = N.Link.told; count = N.Link.count; is_sound = N.sound net.old }) parts
         (seen N.count N.told net.old net.new) (seen S.count S.told children.old children.new)) }
     ensures lines { IfOk result (λ d. All HasLine d.end.clear.calls) }
-    ensures soundly { N.sound net.old → S.sound children.old → IfErr result (StopsSoundly program.now config.now
-        (record { told = N.Link.told; count = N.Link.count; is_sound = N.sound net.old }) parts
-        (seen N.count N.told net.old net.new) (seen S.count S.told children.old children.new)) }
+    ensures soundly { N.sound net.old → S.sound children.old
+        → IfErr result (StopsSoundly parts (seen N.count N.told net.old net.new)) }
 {
     let mut links = Vec::new(alloc);
     let mut numbers = Vec::new(alloc);

@@ -4,7 +4,7 @@ ghost use Rattle.cosim_serve.specs.Serves.{NetView};
 ghost use Rattle.configured_machine.specs.Configured.{MayRun};
 ghost use Rattle.outcomes.specs.Seen.{seen};
 ghost use Rattle.transcript.specs.CallLines.{HasLine};
-ghost use Rattle.cosim_run.specs.Conversations.{Converses, ConversesSoundly, IsConversation, undriven, unopened};
+ghost use Rattle.cosim_run.specs.Conversations.{StopsSoundly, undriven, unopened};
 ghost use Rattle.cosim_run.specs.Steps.{ComesDriven, ComesUndriven};
 
 use crate::refusal::RunRefusal;
@@ -93,9 +93,8 @@ pub fn converse<N: Network, S: Spawner>(
         (seen N.count N.told net.old net.new) (seen S.count S.told children.old children.new) numbers.new.items) }
     ensures lines { IfOk result (λ d. All HasLine d.end.clear.calls) }
     ensures sound_children { S.sound children.old → S.sound children.new }
-    ensures soundly { N.sound net.old → S.sound children.old → IfErr result (λ e.
-        ConversesSoundly (record { told = N.Link.told; count = N.Link.count; is_sound = N.sound net.old }) parts
-        (seen N.count N.told net.old net.new) (seen S.count S.told children.old children.new) (Err e)) }
+    ensures soundly { N.sound net.old → S.sound children.old
+        → IfErr result (StopsSoundly parts (seen N.count N.told net.old net.new)) }
 {
     let Parts {
         config: settings,
