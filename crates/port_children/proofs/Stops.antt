@@ -1,6 +1,7 @@
 -- How having the links of children stops.
 use Rattle.std.proofs.Common.{ℕ, ◌≡◌, ◌+◌, ◌<◌, ◌≤◌, List, [], ◌∷◌, ◌++◌, length, take, drop, refl, ap, sym, ◌∙◌, subst, arith, inl, inr}
-use Rattle.std.proofs.lemmas.List.{append-nil, take-append-drop, take-all, length-map}
+use Rattle.std.proofs.lemmas.List.{append-nil, take-append-drop, length-map}
+use Rattle.std.proofs.Math.Seq.{take-length}
 use Rattle.std.specs.Prelude.{IfSome, IsSomeAnd, Option, Some, None}
 use Rattle.cos_base.specs.Counts.{Rose}
 use Rattle.cos_base.specs.Networks.{Coming}
@@ -140,7 +141,8 @@ pub opened : {L : Type 0} (p q : List ℕ) (ports : List PortConfig) (i : ℕ) (
 opened p q ports i links numbers x y v w a b e d given started each_link each_child within past =
     let words = words_from p q 0 (sockets_of ports) in
     let many = length-map ports (λ (c : PortConfig). name_of c.socket) in
-    let all : take i words ≡ words = take-all i words (omega (arith, past, many, words-length p q 0 (sockets_of ports))) in
+    let whole : i ≡ length words = omega (arith, within, past, many, words-length p q 0 (sockets_of ports)) in
+    let all : take i words ≡ words = ap (λ n. take n words) whole ∙ take-length words in
     record {
       net_stands = given.stands;
       children_stand = started.stands;
