@@ -1,8 +1,8 @@
 -- How having the links of children stops.
-use Rattle.std.proofs.Common.{ℕ, ◌≡◌, ◌+◌, ◌<◌, ◌≤◌, List, [], ◌∷◌, ◌++◌, length, take, drop, refl, ap, sym, ◌∙◌, subst, arith, inl, inr}
+use Rattle.std.proofs.Common.{ℕ, ◌≡◌, ◌<◌, ◌≤◌, List, [], ◌++◌, length, take, drop, refl, ap, sym, ◌∙◌, subst, arith, inl, inr}
 use Rattle.std.proofs.lemmas.List.{append-nil, take-append-drop, length-map}
 use Rattle.std.proofs.Math.Seq.{take-length}
-use Rattle.std.specs.Prelude.{IfSome, IsSomeAnd, Option, Some, None}
+use Rattle.std.specs.Prelude.{IsSomeAnd, Option, Some, None}
 use Rattle.cos_base.specs.Counts.{Rose}
 use Rattle.cos_base.specs.Networks.{Coming}
 use Rattle.cos_children.specs.Children.{Children}

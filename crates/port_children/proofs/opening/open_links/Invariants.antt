@@ -1,4 +1,4 @@
-use Rattle.std.proofs.Common.{◌≡◌, ℕ, [], take, length, All, IfSome}
+use Rattle.std.proofs.Common.{◌≡◌, take, length, All, IfSome}
 use Rattle.cos_base.specs.Links.{IsFresh}
 use Rattle.outcomes.specs.Seen.{seen}
 use Rattle.port_children.specs.Peers.{sockets_of, words_from}

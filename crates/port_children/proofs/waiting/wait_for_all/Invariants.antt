@@ -1,4 +1,4 @@
-use Rattle.std.proofs.Common.{◌≡◌, ◌≤◌, ℕ, take, drop, IfSome}
+use Rattle.std.proofs.Common.{◌≤◌, take, drop, IfSome}
 use Rattle.outcomes.specs.Seen.{seen}
 use Rattle.port_children.specs.Waited.{AllRun, IsWaited, NotSpawner}
 use Rattle.port_children.proofs.waiting.wait_for_all.Given as goal
