@@ -103,8 +103,8 @@ runs-each [] c once run = tt
 runs-each (k ∷ ks) c once run = (
   run k (omega (arith, sum_by-cons (one k) k ks, one-self k)),
   runs-each ks (with_stopped c k) (λ n. omega (arith, once n, sum_by-cons (one n) k ks))
-  (λ n in_rest. still-runs (k == n) n k ks c refl (once n) in_rest
-  (run n (omega (arith, in_rest, sum_by-cons (one n) k ks)))),
+      (λ n in_rest. still-runs (k == n) n k ks c refl (once n) in_rest
+      (run n (omega (arith, in_rest, sum_by-cons (one n) k ks)))),
 )
 
 -- a number that was started more than once wouldn't be one that runs and was started once

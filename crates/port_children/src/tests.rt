@@ -63,6 +63,7 @@ fn two_links(alloc: Global, failing: &[u32]) -> Result<MemNet<Said>, NoMemory> {
 }
 
 /// What the links of two ports came to: the answer, how many links there are, and the children's numbers.
+#[derive(Drop)]
 struct Opened {
     answer: Result<(), OpenFault>,
     links: usize,
@@ -70,17 +71,20 @@ struct Opened {
 }
 
 /// Opens the links of two ports over a network whose calls with these numbers fail.
-fn open_two(
-    alloc: Global,
-    failing: &[u32],
-    children: &mut MemSpawner,
-) -> Result<Opened, NoMemory> {
+fn open_two(alloc: Global, failing: &[u32], children: &mut MemSpawner) -> Result<Opened, NoMemory> {
     let ports = [port(alloc, "s0")?, port(alloc, "s1")?];
     let mut net = two_links(alloc, failing)?;
     let mut links = Vec::new(alloc);
     let mut numbers = Vec::new(alloc);
     let answer = open_links(
-        alloc, &ports, "cosim", "machine", &mut links, &mut numbers, &mut net, children,
+        alloc,
+        &ports,
+        "cosim",
+        "machine",
+        &mut links,
+        &mut numbers,
+        &mut net,
+        children,
     );
     Ok(Opened {
         answer,
@@ -108,7 +112,10 @@ fn children_stay_to_be_waited_for_where_a_link_fails(rt: HostRuntime) -> Result<
     assert_eq!(rt; opened.answer, Err(OpenFault::Net { count: 1 }));
     assert_eq!(rt; opened.links, 1);
     assert_eq!(rt; opened.numbers.as_slice(), [0, 1].as_slice());
-    assert_eq!(rt; wait_for_all(opened.numbers.as_slice(), &mut children), Ok(()));
+    assert_eq!(rt;
+        wait_for_all(opened.numbers.as_slice(), &mut children),
+        Ok(())
+    );
     Ok(())
 }
 
