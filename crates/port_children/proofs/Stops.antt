@@ -1,15 +1,15 @@
 -- How having the links of children stops.
-use Rattle.std.proofs.Common.{ℕ, ◌≡◌, ◌+◌, ◌<◌, ◌≤◌, List, [], ◌∷◌, ◌++◌, length, take, drop, refl, ap, sym, ◌∙◌, subst, arith, inl, inr}
+use Rattle.std.proofs.Common.{ℕ, ◌≡◌, ◌+◌, ◌≤◌, List, [], ◌++◌, length, take, drop, refl, ap, sym, ◌∙◌, subst, arith, inl, inr}
 use Rattle.std.proofs.lemmas.List.{append-nil, take-append-drop, length-map}
 use Rattle.std.proofs.Math.Seq.{take-length}
-use Rattle.std.specs.Prelude.{IfSome, IsSomeAnd, Option, Some, None}
+use Rattle.std.specs.Prelude.{Option}
 use Rattle.cos_base.specs.Counts.{Rose}
 use Rattle.cos_base.specs.Networks.{Coming}
 use Rattle.cos_children.specs.Children.{Children}
 use Rattle.cos_config.specs.declared.config.PortConfig.{PortConfig}
 use Rattle.port_children.specs.declared.fault.OpenFault.{OpenFault}
 use Rattle.port_children.specs.declared.fault.OpenFault.TheVariants as fault
-use Rattle.port_children.specs.Opened.{Gives, StartsAll, Blames, IsOpened, IsUnopened}
+use Rattle.port_children.specs.Opened.{StartsAll, Blames, IsOpened, IsUnopened}
 use Rattle.port_children.specs.Peers.{name_of, sockets_of, words_from}
 use Rattle.port_children.specs.Steps.{AreStarted, IsUnstarted, IsGiven, IsCutOff, IsPart, NetBlames, SpawnBlames}
 use Rattle.port_children.proofs.Parts.{between, gives-weak, starts-may, starts-weak, starts-none, cut-more, words-length}
@@ -45,6 +45,7 @@ stop-listening sockets words links numbers x y v a b e f no-links no-numbers par
       words_are = refl;
       each_child = refl;
       few_links = omega arith;
+      port_by_port = omega arith;
       listens_first = inr refl;
       gives = part.cut.gives;
       starts = starts-weak [] [] e e (starts-none e);
@@ -67,6 +68,7 @@ stop-short sockets words i links numbers x y v w a b e d given started few = rec
   words_are = sym (take-append-drop i words);
   each_child = started.each;
   few_links = omega (arith, few);
+  port_by_port = omega (arith, few);
   listens_first = inl refl;
   gives = gives-weak sockets links a b given.gives;
   starts = starts-weak (take i words) numbers e d started.starts;
@@ -89,6 +91,7 @@ stop-starting sockets words i links numbers x y v u w a b e m d f given started 
   words_are = sym (take-append-drop i words);
   each_child = started.each;
   few_links = omega (arith, few);
+  port_by_port = omega (arith, few);
   listens_first = inl refl;
   gives = gives-weak sockets links a b given.gives;
   starts = starts-may (take i words) numbers e m d started.starts none.starts;
@@ -99,7 +102,7 @@ stop-starting sockets words i links numbers x y v u w a b e m d f given started 
 pub stop-accepting : {L : Type 0} (sockets : List (List ℕ)) (words : List (List (List ℕ))) (i : ℕ) (links : List L)
     (numbers : List ℕ) (x y z v w : ℕ) (a b c : Option (Coming L)) (e d : Option Children) (f : OpenFault)
     → IsGiven sockets links (between x y a b) → IsCutOff {L = L} [] [] (between y z b c) f
-    → AreStarted (take i words) numbers (between v w e d) → length links ≤ length numbers
+    → AreStarted (take i words) numbers (between v w e d) → length numbers ≡ length links + 1
     → IsUnopened sockets words (between x z a c) (between v w e d) links numbers f
 stop-accepting {L} sockets words i links numbers x y z v w a b c e d f given cut started few =
     let stopped : IsCutOff sockets links (between x z a c) f =
@@ -115,21 +118,13 @@ stop-accepting {L} sockets words i links numbers x y z v w a b c e d f given cut
       unstarted = drop i words;
       words_are = sym (take-append-drop i words);
       each_child = started.each;
-      few_links = few;
+      few_links = omega (arith, few);
+      port_by_port = omega (arith, few);
       listens_first = inl refl;
       gives = stopped.gives;
       starts = starts-weak (take i words) numbers e d started.starts;
       untold = started.untold;
     }
-
--- a sound network that has no link left had fewer links to come than there are ports
-pub lacked : {L : Type 0} (sockets : List (List ℕ)) (links : List L) (n : ℕ) (a b : Option (Coming L))
-    → Gives sockets links a b → IsSomeAnd a (λ t. Unit {0}) → IsSomeAnd b (λ t. t.coming ≡ []) → length links < n
-    → IsSomeAnd a (λ t. length t.coming < n)
-lacked sockets links n None b gives told none few = told
-lacked sockets links n (Some o) None gives told none few = absurd none
-lacked sockets links n (Some o) (Some p) gives told none few =
-    let are = ap length (gives.coming ∙ ap (λ l. links ++ l) none ∙ append-nil links) in omega (arith, are, few)
 
 -- each port has its link and its child
 pub opened : {L : Type 0} (p q : List ℕ) (ports : List PortConfig) (i : ℕ) (links : List L) (numbers : List ℕ)

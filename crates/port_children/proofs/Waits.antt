@@ -1,5 +1,5 @@
 -- Waiting for one child more.
-use Rattle.std.proofs.Common.{ℕ, ◌≡◌, ◌+◌, ◌<◌, ◌≤◌, zero, suc, List, [], ◌∷◌, ◌++◌, length, take, drop, refl, ap, sym, ◌∙◌, subst, arith, get_or, true, false, add-one, drop-cons}
+use Rattle.std.proofs.Common.{ℕ, ◌≡◌, ◌+◌, ◌<◌, ◌≤◌, zero, suc, List, [], ◌∷◌, ◌++◌, length, drop, refl, ap, sym, ◌∙◌, subst, arith, get_or, true, false, add-one, drop-cons}
 use Rattle.std.specs.Prelude.{IfSome, Option, Some, None}
 use Rattle.std.specs.Result.{is_ok}
 use Rattle.std.specs.declared.result.Result.{Result}
@@ -11,7 +11,7 @@ use Rattle.cos_children.specs.declared.spawners.SpawnFault.TheVariants as spawn
 use Rattle.outcomes.specs.Seen.{Seen}
 use Rattle.port_children.specs.declared.fault.WaitFault.{WaitFault}
 use Rattle.port_children.specs.declared.fault.WaitFault.TheVariants.{Status, Spawner, NoMemory}
-use Rattle.port_children.specs.Waited.{Given, with_wait, with_waits, ComesTo, Blames, IsWaited, IsOneWaited, AllRun, NotSpawner}
+use Rattle.port_children.specs.Waited.{StillTold, Given, with_wait, with_waits, ComesTo, Blames, IsWaited, IsOneWaited, AllRun, NotSpawner}
 
 -- the first of what waits came to that is no status 0
 abbrev pub first_of_both : Result Unit WaitFault → Result Unit WaitFault → Result Unit WaitFault
@@ -66,6 +66,14 @@ told-more (Some o) (Some p) None ns n gs g each first un next = tt
 told-more (Some o) (Some p) (Some q) ns n gs g each first un next =
     next ∙ ap (λ d. with_wait d n g) first ∙ sym (waits-more o ns n gs g each)
 
+still-more : (x y z : ℕ) (a b c : Option Children) (r s : Result Unit WaitFault) → StillTold (between x y a b) r
+    → StillTold (between y z b c) s → StillTold (between x z a c) (first_of_both r s)
+still-more x y z a b c (Err f) s first next = tt
+still-more x y z a b c (Ok u) (Err f) first next = tt
+still-more x y z None b c (Ok u) (Ok v) first next = tt
+still-more x y z (Some o) None c (Ok u) (Ok v) first next = absurd (cc)
+still-more x y z (Some o) (Some p) c (Ok u) (Ok v) first next = next
+
 -- children were waited for, and then one more
 pub waited-more : (x y z : ℕ) (a b c : Option Children) (ns : List ℕ) (n port : ℕ) (all : List ℕ)
     (r s t : Result Unit WaitFault) → all ≡ ns ++ n ∷ [] → port ≡ length ns → t ≡ first_of_both r s
@@ -82,6 +90,7 @@ waited-more x y z a b c ns n port all r s t all-are at is first grew next grows 
           subst (λ p. ComesTo p (next.given ∷ []) s) here next.comes);
       blames = blames-grow x y z a b c r s first.blames grew next.blames grows;
       waits = told-more a b c ns n first.given next.given first.each first.waits next.untold next.waits;
+      still_told = still-more x y z a b c r s first.still_told next.still_told;
       untold = λ none. next.untold (first.untold none);
     }))
 
@@ -96,10 +105,6 @@ came-err (Err f) s t ok is = is
 
 pub drop-next : (ns : List ℕ) (i : ℕ) → i < length ns → drop i ns ≡ get_or ns i 0 ∷ drop (i + 1) ns
 drop-next ns i small = rw (add-one, drop-cons ns i 0)
-
-pub waited-none : (x : ℕ) (a : Option Children) → IsWaited [] (between x x a a) (Ok tt)
-waited-none x None = record { given = []; each = refl; comes = refl; blames = refl; waits = tt; untold = λ e. refl }
-waited-none x (Some c) = record { given = []; each = refl; comes = refl; blames = refl; waits = refl; untold = λ e. e }
 
 -- those that run after a wait
 

@@ -2,3 +2,4 @@ pub mod Peers
 pub mod Opened
 pub mod Steps
 pub mod Waited
+pub mod ChildLaws

@@ -1,6 +1,6 @@
 -- How the links of children are had: their sockets are listened under by port, and then, port by port, the child is
 -- started and its link taken.
-use Rattle.std.specs.Prelude.{ℕ, ◌≡◌, ◌⊎◌, ◌<◌, ◌≤◌, List, [], ◌∷◌, ◌++◌, length, IfSome, IsSomeAnd}
+use Rattle.std.specs.Prelude.{ℕ, ◌≡◌, ◌⊎◌, ◌+◌, ◌<◌, ◌≤◌, List, [], ◌∷◌, ◌++◌, length, IfSome, IsSomeAnd}
 use Rattle.std.specs.declared.option.Option.{Option}
 use Rattle.std.specs.declared.option.Option.TheVariants.{None}
 use Rattle.std.specs.declared.result.Result.{Result}
@@ -61,7 +61,8 @@ Blames net children (fault.Net n) = IsBlamed net n × CountStands children
 Blames net children (fault.Spawner n) = CountStands net × IsBlamed children n
 Blames net children fault.NoMemory = CountStands net × CountStands children
 
--- Some were had, and then a call failed. No child is started before all sockets are listened under.
+-- Some were had, and then a call failed. No child was started unless all sockets were listened under, and of those that
+-- were started each but the last has its link.
 pub record IsUnopened {L : Type 0} (sockets : List (List ℕ)) (words : List (List (List ℕ))) (net : Seen (Coming L))
     (children : Seen Children) (links : List L) (numbers : List ℕ) (f : OpenFault) : Type 0 where
   pub blames : Blames net children f
@@ -73,6 +74,7 @@ pub record IsUnopened {L : Type 0} (sockets : List (List ℕ)) (words : List (Li
   pub words_are : words ≡ started ++ unstarted
   pub each_child : length numbers ≡ length started
   pub few_links : length links ≤ length numbers
+  pub port_by_port : length numbers ≤ length links + 1
   pub listens_first : (unnamed ≡ []) ⊎ (started ≡ [])
   pub gives : MayGive names links net.old net.new
   pub starts : MayStart started numbers children.old children.new

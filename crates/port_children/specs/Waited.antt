@@ -1,7 +1,6 @@
 -- How children are waited for, by port, and what that comes to.
-use Rattle.std.specs.Prelude.{ℕ, ◌≡◌, ◌+◌, ◌≤◌, zero, suc, List, [], ◌∷◌, length, IfSome}
-use Rattle.std.specs.declared.option.Option.{Option}
-use Rattle.std.specs.declared.option.Option.TheVariants.{Some, None}
+use Rattle.std.specs.Prelude.{ℕ, ◌≡◌, ◌+◌, ◌≤◌, zero, suc, List, [], ◌∷◌, length, IfSome, IsSome}
+use Rattle.std.specs.declared.option.Option.TheVariants.{None}
 use Rattle.std.specs.declared.result.Result.{Result}
 use Rattle.std.specs.declared.result.Result.TheVariants.{Ok, Err}
 use Rattle.cos_children.specs.Children.{Children, Runs, with_ended, with_stopped}
@@ -48,6 +47,11 @@ Blames children (Err (Status port status)) = children.before ≤ children.now
 Blames children (Err (Spawner count)) = IsBlamed children count
 Blames children (Err NoMemory) = children.before ≤ children.now
 
+-- where all ended well, what was told still is
+abbrev pub StillTold : Seen Children → Result Unit WaitFault → Type 0
+StillTold children (Ok u) = IfSome children.old (λ old. IsSome children.new)
+StillTold children (Err f) = Unit {0}
+
 -- Each child was waited for.
 pub record IsWaited (numbers : List ℕ) (children : Seen Children) (r : Result Unit WaitFault) : Type 0 where
   pub given : List Given
@@ -55,6 +59,7 @@ pub record IsWaited (numbers : List ℕ) (children : Seen Children) (r : Result 
   pub comes : ComesTo 0 given r
   pub blames : Blames children r
   pub waits : IfSome children.old (λ old. IfSome children.new (λ new. new ≡ with_waits old numbers given))
+  pub still_told : StillTold children r
   -- what isn't told isn't told later
   pub untold : children.old ≡ None → children.new ≡ None
 
@@ -64,6 +69,7 @@ pub record IsOneWaited (port child : ℕ) (children : Seen Children) (r : Result
   pub comes : ComesTo port (given ∷ []) r
   pub blames : Blames children r
   pub waits : IfSome children.old (λ old. IfSome children.new (λ new. new ≡ with_wait old child given))
+  pub still_told : StillTold children r
   pub untold : children.old ≡ None → children.new ≡ None
 
 -- Each runs, the others being waited for before it.

@@ -10,3 +10,6 @@ mod words;
 pub use fault::{OpenFault, WaitFault};
 pub use opening::open_links;
 pub use waiting::wait_for_all;
+
+#[cfg(test)]
+mod tests;

@@ -81,11 +81,7 @@ fn start<S: Spawner>(
 }
 
 /// Takes the link of a listener, in the room that there is.
-fn accept<N: Network>(
-    listener: u32,
-    links: &mut Vec<N::Link>,
-    net: &mut N,
-) -> Result<(), OpenFault>
+fn accept<N: Network>(listener: u32, links: &mut Vec<N::Link>, net: &mut N) -> Result<(), OpenFault>
     requires { vec_len links.old + 1 ≤ vec_capacity links.old }
     ensures accepts { Accepts (seen N.count N.told net.old net.new) links.old.items links.new.items result }
     ensures fresh { All (λ l. IfSome (N.Link.told l) IsFresh) links.old.items

@@ -1,4 +1,4 @@
-use Rattle.std.proofs.Common.{◌≡◌, ℕ, [], take, length}
+use Rattle.std.proofs.Common.{◌≡◌, [], take, length}
 use Rattle.outcomes.specs.Seen.{seen}
 use Rattle.port_children.specs.Peers.{sockets_of}
 use Rattle.port_children.specs.Steps.{IsGiven}

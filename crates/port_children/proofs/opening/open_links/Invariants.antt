@@ -1,4 +1,4 @@
-use Rattle.std.proofs.Common.{◌≡◌, ℕ, [], take, length, All, IfSome}
+use Rattle.std.proofs.Common.{◌≡◌, take, length, All, IfSome}
 use Rattle.cos_base.specs.Links.{IsFresh}
 use Rattle.outcomes.specs.Seen.{seen}
 use Rattle.port_children.specs.Peers.{sockets_of, words_from}
@@ -9,7 +9,7 @@ abbrev pub invariant-ports : goal.invariant-ports
 invariant-ports g l = record {
   given : IsGiven (sockets_of l.ports) l.links.items (seen g.N.Network.count g.N.Network.told l.fn.net l.net);
   started : AreStarted (take l.index (words_from l.program l.config 0 (sockets_of l.ports))) l.numbers.items
-  (seen g.S.Spawner.count g.S.Spawner.told l.fn.children l.children);
+      (seen g.S.Spawner.count g.S.Spawner.told l.fn.children l.children);
   each_link : length l.links.items ≡ l.index;
   each_child : length l.numbers.items ≡ l.index;
   each_listener : length l.listeners ≡ length l.ports;

@@ -1,4 +1,4 @@
-use Rattle.std.proofs.Common.{◌≡◌, ◌+◌, ◌∷◌, IfSome, length, take, drop, get_or, sym, subst, ◌∙◌, arith}
+use Rattle.std.proofs.Common.{◌≡◌, IfSome, length, take, get_or, sym, subst, ◌∙◌, arith}
 use Rattle.std.proofs.lemmas.List.{take_more, length-take}
 use Rattle.port_children.specs.Waited.{AllRun, NotSpawner}
 use Rattle.port_children.proofs.Waits.{first_of_both, waited-more, came-ok, came-err, drop-next, run-left, run-first, not-first}
