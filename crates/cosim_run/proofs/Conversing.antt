@@ -11,11 +11,20 @@ use Rattle.cos_base.specs.Counts.{Rose, Rises}
 use Rattle.cos_base.specs.Links.{Wire, IsFresh}
 use Rattle.cos_base.specs.Networks.{Coming}
 use Rattle.cos_children.specs.Children.{Children}
+use Rattle.cos_config.specs.Plans.{plan_of}
+use Rattle.cos_parts.specs.declared.any_master.AnyMaster.{AnyMaster}
+use Rattle.cos_parts.specs.AnyDevices as devices
+use Rattle.cos_parts.specs.AnyMasters as masters
 use Rattle.configured_machine.specs.declared.parts.Parts.{Parts}
 use Rattle.cosim_model.specs.declared.session.EndFault.{EndFault}
 use Rattle.cosim_model.specs.declared.session.EndFault.TheVariants as fault
 use Rattle.cosim_serve.specs.Serves.{NetView}
-use Rattle.end_machine.specs.Driving.{AllFresh, CountsIf, DriveCounts, NotLink}
+use Rattle.end_machine.specs.Driving.{AllFresh, CountsIf, DriveCounts, DrivesDirectly, HasFinished, NotLink, WhereTold}
+use Rattle.end_machine.specs.Talk.{ByTalk}
+use Rattle.end_machine.specs.Wires.{said_on}
+use Rattle.ends_model.specs.World.{machine_start}
+use Rattle.machine_turns.specs.Ends.{End, fresh}
+use Rattle.machine_turns.specs.Runs.{IsRun}
 use Rattle.machine_turns.specs.declared.fault.TurnFault.{TurnFault}
 use Rattle.machine_turns.specs.declared.fault.TurnFault.TheVariants as turn_fault
 use Rattle.outcomes.specs.Seen.{Seen, CountStands}
@@ -23,9 +32,12 @@ use Rattle.port_children.specs.declared.fault.OpenFault.{OpenFault}
 use Rattle.port_children.specs.declared.fault.OpenFault.TheVariants as opening
 use Rattle.port_children.specs.Opened.{HasGiven, IsOpened, IsUnopened, OpensSoundly, with_all}
 use Rattle.port_children.specs.Peers.{sockets_of, words_from}
+use Rattle.rp_packet.specs.declared.fault.Cause.{Cause}
 use Rattle.rp_packet.specs.declared.fault.PacketFault.{PacketFault}
+use Rattle.transcript.specs.CallLines.{HasLine}
 use Rattle.cosim_run.specs.Conversations.{Converses, IsAll, IsConversation, IsDrivenOver, Machine, Reach}
-use Rattle.cosim_run.specs.Conversations.{RunEnded, StopsSoundly, undriven, undriven_at, unopened}
+use Rattle.cosim_run.proofs.Lined.{run-lines}
+use Rattle.cosim_run.specs.Conversations.{RunEnded, start_end, StopsSoundly, undriven, undriven_at, unopened}
 
 words-each : (program config : List ℕ) (port : ℕ) (sockets : List (List ℕ))
     → length (words_from program config port sockets) ≡ length sockets
@@ -211,3 +223,35 @@ all-fresh told (l ∷ ls) each zero w is =
     subst (λ o. IfSome o IsFresh) (same_Some (told l) (Some w) is) (each zero l (omega arith))
 all-fresh told (l ∷ ls) each (suc p) w is =
     all-fresh told ls (λ q d small. each (suc q) d (omega (arith, small))) p w is
+
+-- What driving leaves of the end that was made.
+
+pub started : (p : Parts) (e : End AnyMaster) (n : ℕ)
+    → e ≡ fresh (machine_start Cause p.machine.master n (plan_of p.config)) n → n ≡ length p.config.ports
+    → e.clear ≡ start_end p
+started p e n is size =
+    ap (λ e. e.clear) is ∙ ap (λ n. machine_start Cause p.machine.master n (plan_of p.config)) size
+
+pub driven-over : {L : Type 0} (told : L → Option Wire) (p : Parts) (links ls : List L) (start left : Machine)
+    (r : Result Unit TurnFault) → ls ≡ links → start ≡ start_end p
+    → WhereTold (map told ls) (λ ws. ByTalk masters.any_model start (length ws) (said_on ws) left r)
+    → WhereTold (map told ls) (DrivesDirectly masters.any_model devices.any_model start left r)
+    → IsDrivenOver told p links left r
+driven-over told p links ls start left r same is talk honest = record {
+  talk = subst (λ l. WhereTold (map told l)
+      (λ ws. ByTalk masters.any_model (start_end p) (length ws) (said_on ws) left r)) same
+      (subst (λ s. WhereTold (map told ls) (λ ws. ByTalk masters.any_model s (length ws) (said_on ws) left r)) is talk);
+  honest = subst (λ l. WhereTold (map told l)
+      (DrivesDirectly masters.any_model devices.any_model (start_end p) left r)) same
+      (subst (λ s. WhereTold (map told ls) (DrivesDirectly masters.any_model devices.any_model s left r)) is honest);
+}
+
+-- The calls of an end whose run is over have lines.
+pub finished-lines : (p : Parts) (start e : Machine) (n : ℕ) → start ≡ start_end p → n ≡ length p.config.ports
+    → HasFinished masters.any_model start n e → All HasLine e.calls
+finished-lines p start e n is size fin =
+    let run = subst (λ s. IsRun masters.any_model s n fin.received fin.turns fin.hub fin.sent) is fin.run in
+    let whole = subst (λ n. IsRun masters.any_model (start_end p) n fin.received fin.turns fin.hub fin.sent) size run in
+    subst (All HasLine) (sym fin.parts.1)
+    (run-lines masters.any_model p.machine.master (length p.config.ports) (plan_of p.config) fin.received fin.turns
+    fin.hub fin.sent whole)

@@ -1,3 +1,3 @@
-mod Conversing
 mod Lined
+mod Conversing
 mod Running

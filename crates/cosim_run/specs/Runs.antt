@@ -36,7 +36,7 @@ use Rattle.rp_packet.specs.Streams.{packet_codec}
 use Rattle.run_texts.specs.Texts.{run_lines}
 use Rattle.cosim_run.specs.declared.refusal.RunRefusal.{RunRefusal}
 use Rattle.cosim_run.specs.declared.refusal.RunRefusal.TheVariants.{Inputs, Peer, Child}
-use Rattle.cosim_run.specs.Conversations.{ConversesSoundly, IsConversation, Machine, RunEnded}
+use Rattle.cosim_run.specs.Conversations.{IsConversation, Machine, RunEnded}
 
 -- What is around a call: its objects before and after it, the names that the files were asked for, what the links of
 -- the network tell and count, and whether the objects are sound before the call.

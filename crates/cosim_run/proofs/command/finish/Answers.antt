@@ -1,4 +1,4 @@
-use Rattle.std.proofs.Common.{[], refl}
+use Rattle.std.proofs.Common.{[], refl, sym}
 use Rattle.run_texts.proofs.Printing.{run-printed}
 use Rattle.cosim_run.proofs.command.finish.Goals as goal
 
