@@ -1,6 +1,6 @@
 -- The forms are the commands.
 use Rattle.std.proofs.Common.{ℕ, ◌≡◌, ◌+◌, List, [], ◌∷◌, ◌++◌, take, codes, refl, ap, sym, ◌∙◌, subst, inl, inr}
-use Rattle.cosim_words.specs.Words.{Command, DeviceNull, DeviceTimer, DevicePort, Show, Pack, Asm, Dis, Direct, Local, Help, Default, Schedule, Steps, words_of, IsInRange, IsCommand, IsFaulty}
+use Rattle.cosim_words.specs.Words.{Command, DeviceNull, DeviceTimer, DevicePort, Show, Pack, Asm, Dis, Direct, Local, Gen, Help, Default, Schedule, Steps, words_of, IsInRange, IsCommand, IsFaulty}
 use Rattle.cosim_words.specs.Forms.{Word, Exact, Other, Any, Number, IsWord, Fits, FitsSome, BeginsSome, FaultyIn, forms}
 
 -- words of a form that begins with a word of its own, by how many stand behind it
@@ -64,6 +64,11 @@ steps-command ws fits =
     let (config, kind, file, steps, any, is) = fits-four (codes "local") Any (Exact (codes "steps")) Any ws fits in
     (Local config (Steps file), tt, is ∙ ap (λ x. codes "local" ∷ config ∷ x ∷ file ∷ []) steps)
 
+gen-command : (ws : List (List ℕ)) → Fits (Exact (codes "gen") ∷ Number 4294967295 ∷ []) ws → IsCommand ws
+gen-command ws fits =
+    let (word, number, is) = fits-two (codes "gen") (Number 4294967295) ws fits in
+    (Gen number.0, number.1, is ∙ ap (λ x. codes "gen" ∷ x ∷ []) number.2)
+
 pub forms-commands : (ws : List (List ℕ)) → FitsSome forms ws → IsCommand ws
 forms-commands ws (inl fits) = null-command ws fits
 forms-commands ws (inr (inl fits)) = timer-command ws fits
@@ -76,8 +81,9 @@ forms-commands ws (inr (inr (inr (inr (inr (inr (inr (inl fits)))))))) = let by 
 forms-commands ws (inr (inr (inr (inr (inr (inr (inr (inr (inl fits))))))))) = let by = fits-two (codes "local") Any ws fits in (Local by.0 Default, by.1, by.2)
 forms-commands ws (inr (inr (inr (inr (inr (inr (inr (inr (inr (inl fits)))))))))) = schedule-command ws fits
 forms-commands ws (inr (inr (inr (inr (inr (inr (inr (inr (inr (inr (inl fits))))))))))) = steps-command ws fits
-forms-commands ws (inr (inr (inr (inr (inr (inr (inr (inr (inr (inr (inr (inl fits)))))))))))) = (Help, tt, fits-one (codes "help") ws fits)
-forms-commands ws (inr (inr (inr (inr (inr (inr (inr (inr (inr (inr (inr (inr fits)))))))))))) = absurd fits
+forms-commands ws (inr (inr (inr (inr (inr (inr (inr (inr (inr (inr (inr (inl fits)))))))))))) = gen-command ws fits
+forms-commands ws (inr (inr (inr (inr (inr (inr (inr (inr (inr (inr (inr (inr (inl fits))))))))))))) = (Help, tt, fits-one (codes "help") ws fits)
+forms-commands ws (inr (inr (inr (inr (inr (inr (inr (inr (inr (inr (inr (inr (inr fits))))))))))))) = absurd fits
 
 pub command-fits : (c : Command) → IsInRange c → FitsSome forms (words_of c)
 command-fits (DeviceNull socket) range = inl (refl, (tt, (refl, tt)))
@@ -91,7 +97,8 @@ command-fits (Direct config) range = inr (inr (inr (inr (inr (inr (inr (inl (ref
 command-fits (Local config Default) range = inr (inr (inr (inr (inr (inr (inr (inr (inl (refl, (tt, tt))))))))))
 command-fits (Local config (Schedule number)) range = inr (inr (inr (inr (inr (inr (inr (inr (inr (inl (refl, (tt, (refl, ((number, range, refl), tt)))))))))))))
 command-fits (Local config (Steps file)) range = inr (inr (inr (inr (inr (inr (inr (inr (inr (inr (inl (refl, (tt, (refl, (tt, tt))))))))))))))
-command-fits Help range = inr (inr (inr (inr (inr (inr (inr (inr (inr (inr (inr (inl (refl, tt))))))))))))
+command-fits (Gen number) range = inr (inr (inr (inr (inr (inr (inr (inr (inr (inr (inr (inl (refl, ((number, range, refl), tt)))))))))))))
+command-fits Help range = inr (inr (inr (inr (inr (inr (inr (inr (inr (inr (inr (inr (inl (refl, tt)))))))))))))
 
 pub commands-forms : (ws : List (List ℕ)) → IsCommand ws → FitsSome forms ws
 commands-forms ws (c, range, is) = subst (FitsSome forms) (sym is) (command-fits c range)

@@ -71,5 +71,6 @@ forms =
     ∷ (Exact (codes "local") ∷ Any ∷ [])
     ∷ (Exact (codes "local") ∷ Any ∷ Exact (codes "schedule") ∷ Number 4294967295 ∷ [])
     ∷ (Exact (codes "local") ∷ Any ∷ Exact (codes "steps") ∷ Any ∷ [])
+    ∷ (Exact (codes "gen") ∷ Number 4294967295 ∷ [])
     ∷ (Exact (codes "help") ∷ [])
     ∷ []

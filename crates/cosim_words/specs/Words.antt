@@ -22,6 +22,7 @@ pub data Command : Type 0 where
   Dis : List ℕ → Command
   Direct : List ℕ → Command
   Local : List ℕ → Order → Command
+  Gen : ℕ → Command
   Help : Command
 
 -- a number stands in decimal digits, without leading zeros
@@ -41,6 +42,7 @@ words_of (Asm file out) = codes "asm" ∷ file ∷ out ∷ []
 words_of (Dis file) = codes "dis" ∷ file ∷ []
 words_of (Direct config) = codes "direct" ∷ config ∷ []
 words_of (Local config order) = codes "local" ∷ config ∷ order_words order
+words_of (Gen number) = codes "gen" ∷ decimal number ∷ []
 words_of Help = codes "help" ∷ []
 
 -- A line is one of 32, a port and a number have 32 bits, and no configuration is named as the timer is.
@@ -60,6 +62,7 @@ IsInRange (Asm file out) = Unit {0}
 IsInRange (Dis file) = Unit {0}
 IsInRange (Direct config) = Unit {0}
 IsInRange (Local config order) = IsOrder order
+IsInRange (Gen number) = number ≤ 4294967295
 IsInRange Help = Unit {0}
 
 -- the command that was read
@@ -79,6 +82,7 @@ asked (read.Asm file out) = Asm file.now out.now
 asked (read.Dis file) = Dis file.now
 asked (read.Direct config) = Direct config.now
 asked (read.Local config order) = Local config.now (asked_order order)
+asked (read.Gen number) = Gen number
 asked read.Help = Help
 
 abbrev pub IsCommand : List (List ℕ) → Type 0

@@ -49,6 +49,8 @@ fn words_are_read_as_commands(rt: HostRuntime) -> Result<(), Fail> {
     assert!(rt; reads(alloc, &["pack", "f"], Ok(Command::Pack { file }))?);
     assert!(rt; reads(alloc, &["dis", "f"], Ok(Command::Dis { file }))?);
     assert!(rt; reads(alloc, &["direct", "c"], Ok(Command::Direct { config }))?);
+    let most = Command::Gen { number: u32::MAX };
+    assert!(rt; reads(alloc, &["gen", "4294967295"], Ok(most))?);
     assert!(rt; reads(alloc, &["help"], Ok(Command::Help))?);
     Ok(())
 }
@@ -77,7 +79,7 @@ fn a_local_run_has_an_order(rt: HostRuntime) -> Result<(), Fail> {
 #[test]
 fn other_words_stop_being_one(rt: HostRuntime) -> Result<(), Fail> {
     let alloc = rt.alloc();
-    let rows: [(&[&str], u64); 18] = [
+    let rows: [(&[&str], u64); 22] = [
         (&[], 0),
         (&["devices", "s", "null"], 0),
         (&["device", "s"], 2),
@@ -89,6 +91,10 @@ fn other_words_stop_being_one(rt: HostRuntime) -> Result<(), Fail> {
         (&["device", "s", "foo", "007"], 3),
         (&["device", "s", "foo", "+7"], 3),
         (&["device", "s", "foo", "7", "x"], 4),
+        (&["gen"], 1),
+        (&["gen", "4294967296"], 1),
+        (&["gen", "01"], 1),
+        (&["gen", "1", "x"], 2),
         (&["help", "x"], 1),
         (&["local"], 1),
         (&["local", "c", "schedules"], 2),

@@ -61,6 +61,10 @@ pub enum Command<'a> {
         config: &'a str,
         order: Order<'a>,
     },
+    /// Run the machine that a number generates, and print a summary.
+    Gen {
+        number: u32,
+    },
     /// Print the help text.
     Help,
 }
@@ -295,6 +299,12 @@ pub fn command_of(words: &[String]) -> Result<Command<'_>, u64>
     if is_word(verb, "local") {
         return match local_words(after) {
             Ok(command) => Ok(command),
+            Err(index) => Err(index + 1),
+        };
+    }
+    if is_word(verb, "gen") {
+        return match number_word(after, u32::MAX) {
+            Ok(number) => Ok(Command::Gen { number }),
             Err(index) => Err(index + 1),
         };
     }

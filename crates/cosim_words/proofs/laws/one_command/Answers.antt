@@ -6,7 +6,7 @@ use Rattle.std.specs.Str.{bytes_eq}
 use Rattle.std.specs.Str.Parse.{digits_value}
 use Rattle.std.specs.declared.option.Option.{Option}
 use Rattle.std.specs.declared.option.Option.TheVariants.{Some, None}
-use Rattle.cosim_words.specs.Words.{Command, DeviceNull, DeviceTimer, DevicePort, Show, Pack, Asm, Dis, Direct, Local, Help, Order, Default, Schedule, Steps, IsInRange, words_of}
+use Rattle.cosim_words.specs.Words.{Command, DeviceNull, DeviceTimer, DevicePort, Show, Pack, Asm, Dis, Direct, Local, Gen, Help, Order, Default, Schedule, Steps, IsInRange, words_of}
 use Rattle.cosim_words.proofs.laws.one_command.Goals as goal
 
 -- the word at a place, or none
@@ -43,7 +43,8 @@ of_verb verb words =
     cond (bytes_eq verb (codes "dis")) (Some (Dis (word_at 0 words))) (
     cond (bytes_eq verb (codes "direct")) (Some (Direct (word_at 0 words))) (
     cond (bytes_eq verb (codes "local")) (Some (of_local words)) (
-    cond (bytes_eq verb (codes "help")) (Some Help) None)))))))
+    cond (bytes_eq verb (codes "gen")) (Some (Gen (digits_value 10 (word_at 0 words)))) (
+    cond (bytes_eq verb (codes "help")) (Some Help) None))))))))
 
 abbrev of_words : List (List ℕ) → Option Command
 of_words [] = None
@@ -71,6 +72,7 @@ back (Direct config) range = refl
 back (Local config Default) range = refl
 back (Local config (Schedule number)) range = ap (λ n. Some (Local config (Schedule n))) (value-back number range)
 back (Local config (Steps file)) range = refl
+back (Gen number) range = ap (λ n. Some (Gen n)) (value-back number range)
 back Help range = refl
 
 pub returns : goal.returns

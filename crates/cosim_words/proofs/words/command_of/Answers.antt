@@ -41,10 +41,15 @@ pub returns-in-Err-local_words-clause-err : goal.returns-in-Err-local_words-clau
 returns-in-Err-local_words-clause-err c =
     faulty-of _ _ (faulty-verb forms locals (codes "local") _ _ _ _ c.in-Some.ensures (c.is_word-7.ensures.yes c.if-is_word-7.true) refl refl c.in-Err-local_words.ensures.err)
 
+-- gen
+pub returns-in-Err-number_word-clause-err : goal.returns-in-Err-number_word-clause-err
+returns-in-Err-number_word-clause-err c =
+    faulty-of _ _ (faulty-verb forms ((Number 4294967295 ∷ []) ∷ []) (codes "gen") _ _ _ _ c.in-Some.ensures (c.is_word-8.ensures.yes c.if-is_word-8.true) refl refl c.in-Err-number_word.ensures.err)
+
 -- help
 pub returns-in-Err-no_word-clause-err : goal.returns-in-Err-no_word-clause-err
 returns-in-Err-no_word-clause-err c =
-    faulty-of _ _ (faulty-verb forms ([] ∷ []) (codes "help") _ _ _ _ c.in-Some.ensures (c.is_word-8.ensures.yes c.if-is_word-8.true) refl refl c.in-Err-no_word.ensures.err)
+    faulty-of _ _ (faulty-verb forms ([] ∷ []) (codes "help") _ _ _ _ c.in-Some.ensures (c.is_word-9.ensures.yes c.if-is_word-9.true) refl refl c.in-Err-no_word.ensures.err)
 
 pub returns-clause-err : goal.returns-clause-err
 returns-clause-err c =
@@ -73,7 +78,10 @@ returns-clause-err c =
                         run,
                         (
                           run,
-                          (c.is_word-8.ensures.no c.if-is_word-8.false, tt),
+                          (
+                            c.is_word-8.ensures.no c.if-is_word-8.false,
+                            (c.is_word-9.ensures.no c.if-is_word-9.false, tt),
+                          ),
                         ),
                       ),
                     ),
