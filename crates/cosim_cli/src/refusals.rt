@@ -1,7 +1,7 @@
 // How a command ended, as a status of the program.
 ghost use Rattle.std.specs.Prelude.{◌≡◌};
 ghost use Rattle.statuses.specs.declared.status.Status.{Status};
-ghost use Rattle.cosim_cli.specs.Ended.{ended_status, show_refused, pack_refused, asm_refused, dis_refused, inputs_refused, device_refused, port_refused, local_refused};
+ghost use Rattle.cosim_cli.specs.Ended.{ended_status, show_refused, pack_refused, asm_refused, dis_refused, inputs_refused, device_refused, port_refused, local_refused, never_refused};
 
 use cosim_assembly::{AsmRefusal, DisRefusal};
 use cosim_device::PortRefusal;
@@ -11,6 +11,7 @@ use cosim_packets::{PackRefusal, ShowRefusal};
 use cosim_serve::DeviceRefusal;
 use outcomes::Stop;
 use statuses::{InputFault, Status};
+use std::convert::Infallible;
 
 /// What a command refuses.
 pub trait Refusal: Drop {
@@ -129,5 +130,13 @@ impl Refusal for LocalRefusal {
             LocalRefusal::Inputs(refusal) => refusal.status(),
             LocalRefusal::Steps { line } => Status::Input(InputFault::Line { line }),
         }
+    }
+}
+
+impl Refusal for Infallible {
+    ghost refused = { never_refused };
+
+    fn status(self) -> Status {
+        match self {}
     }
 }

@@ -14,6 +14,7 @@ use cos_base::{Files, Network, Sink};
 use cosim_assembly::{asm, dis};
 use cosim_device::{serve_null, serve_port, serve_timer};
 use cosim_direct::direct;
+use cosim_gen::run_generated;
 use cosim_local::local;
 use cosim_packets::{pack, show};
 use cosim_words::{Command, Order, command_of, stop_of};
@@ -69,6 +70,7 @@ fn perform<F: Files, K: Sink, N: Network>(
         Command::Local { config, order } => {
             status_of(local(alloc, config, order_of(order), files, out))
         }
+        Command::Gen { number } => status_of(run_generated(alloc, number, out)),
         Command::Help => match help(out) {
             Ok(()) => Status::Done,
             Err(OutFailure { count }) => Status::Outside {
@@ -93,6 +95,7 @@ fn perform<F: Files, K: Sink, N: Network>(
 /// | `direct CONFIG` | runs the machine of a configuration without packets, and prints a line for each call and the closing lines |
 /// | `local CONFIG` | runs it as ends that exchange packets, in one process, under schedule 0, and prints the same lines, a line for each link, and how many steps were effective; before, the sectors of disks are written to their `result` |
 /// | `local CONFIG schedule N`, `local CONFIG steps FILE` | the same under the schedule of a number, or a list of steps and then schedule 0 |
+/// | `gen N` | runs the machine that N generates as ends that exchange packets, in one process, under schedule N, and prints N, the number of calls, and behind them what `local` prints behind the lines of its calls |
 /// | `help` | prints a line for each command, those that are still to come among them |
 pub fn cosim<F: Files, K: Sink, E: Sink, N: Network>(
     alloc: Global,

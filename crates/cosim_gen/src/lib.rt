@@ -7,6 +7,3 @@ mod machine;
 mod summary;
 
 pub use command::run_generated;
-
-
-
