@@ -116,10 +116,7 @@ fn make_devices(alloc: Global, input: &[u8], gap: u32) -> Result<Vec<AnyDevice>,
     let timer = AnyDevice::Timer(Timer::make(0));
     let uart = AnyDevice::Uart(Uart::make(alloc, 1, received, gap));
     let dma = AnyDevice::Dma(Dma::make(2));
-    match Vec::from_array(alloc, [timer, uart, dma]) {
-        Ok(devices) => Ok(devices),
-        Err(_) => Err(NoMemory),
-    }
+    Ok(Vec::from_array(alloc, [timer, uart, dma])?)
 }
 
 /// The machine of these settings whose hart runs the generated image, and whose UART receives the generated input.
