@@ -89,7 +89,10 @@ summary-comes number done (Ok text) ends calls behind_these is = (
   done.world.effective,
   ends,
   ap (Works [])
-      (is ∙ ap₂ (λ cs t. head_lines number (length cs) ++ t) calls behind_these),
+      (is
+      ∙ append_assoc (head_lines number (length done.world.now.hub.core.calls)) (closing_text done.end)
+      done.traffic.bytes
+      ∙ ap₂ (λ cs t. head_lines number (length cs) ++ t) calls behind_these),
 )
 
 pub one-comes : (number : ℕ) → IsOne (GenComes number)
