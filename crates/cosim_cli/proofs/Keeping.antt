@@ -15,10 +15,10 @@ use Rattle.cosim_packets.specs.declared.refusals.PackRefusal.TheVariants as pack
 use Rattle.cosim_packets.specs.declared.refusals.ShowRefusal.TheVariants as show
 use Rattle.cosim_serve.specs.declared.refusal.DeviceRefusal.TheVariants as device
 use Rattle.cosim_device.specs.declared.refusal.PortRefusal.TheVariants as port
-use Rattle.cosim_cli.specs.Ended.{ended_status, show_refused, pack_refused, asm_refused, dis_refused, inputs_refused, device_refused, port_refused, local_refused, run_refused}
+use Rattle.cosim_cli.specs.Ended.{ended_status, show_refused, pack_refused, asm_refused, dis_refused, inputs_refused, device_refused, port_refused, local_refused, never_refused, run_refused}
 use Rattle.cosim_cli.specs.Promises.{Around, Keeps, Promises, none_refused}
 use Rattle.cosim_cli.specs.Usage.{Uses}
-use Rattle.cosim_words.specs.Words.{Command, DeviceNull, DeviceTimer, DevicePort, Show, Pack, Asm, Dis, Direct, Local, Run, Help, IsInRange, words_of}
+use Rattle.cosim_words.specs.Words.{Command, DeviceNull, DeviceTimer, DevicePort, Show, Pack, Asm, Dis, Direct, Local, Gen, Help, IsInRange, words_of, Run}
 
 -- No refusal is told as Usage, and so no command ends by it.
 abbrev NeverUsage : {R : Type 0} → (R → Status) → Type 0
@@ -61,6 +61,9 @@ local-never : NeverUsage local_refused
 local-never (local.Inputs refusal) index same = inputs-never refusal index same
 local-never (local.Steps number) index same = cc (same)
 
+nothing-never : NeverUsage never_refused
+nothing-never r index same = elim r [ ]
+
 none-never : NeverUsage none_refused
 none-never never index same = never
 
@@ -81,6 +84,7 @@ never-usage (Dis file) a index keeps = ended-never dis_refused dis-never keeps.r
 never-usage (Direct config) a index keeps = ended-never inputs_refused inputs-never keeps.result index keeps.status
 never-usage (Local config order) a index keeps =
     ended-never local_refused local-never keeps.2.result index keeps.2.status
+never-usage (Gen number) a index keeps = ended-never never_refused nothing-never keeps.result index keeps.status
 never-usage (Run config program) a index keeps = ended-never run_refused run-never keeps.result index keeps.status
 never-usage Help a index keeps = ended-never none_refused none-never keeps.result index keeps.status
 

@@ -1,11 +1,17 @@
--- A promise over sound objects is one over more sound ones.
-use Rattle.std.proofs.Common.{ℕ, List}
+-- How a command's promise is made that of the program.
+use Rattle.std.proofs.Common.{ℕ, List, [], refl}
 use Rattle.std.specs.declared.result.Result.{Result}
+use Rattle.std.specs.declared.result.Result.TheVariants.{Ok, Err}
 use Rattle.cos_base.specs.Stores.{Store}
+use Rattle.outcomes.specs.declared.object.Object.TheVariants as object
 use Rattle.outcomes.specs.declared.stop.Stop.{Stop}
+use Rattle.outcomes.specs.declared.stop.Stop.TheVariants.{Refused, Outside, NoMemory}
+use Rattle.outcomes.specs.Asked.{Asking, AsksNone, AsksFor}
 use Rattle.outcomes.specs.Seen.{Seen}
-use Rattle.outcomes.specs.Outcomes.{Outcome, Performs}
+use Rattle.outcomes.specs.Outcomes.{Outcome, Blames, Performs}
+use Rattle.outcomes.proofs.Asking.{none-all, none-begins}
 
+-- A promise over sound objects is one over more sound ones.
 pub performs-under : {R : Type 0} (Comes : Outcome R → Type 0) (f : Seen Store) (k : Seen (List ℕ)) (S T : Type 0) (room : ℕ) (r : Result Unit (Stop R)) → (S → T) → Performs Comes f k T room r → Performs Comes f k S room r
 performs-under Comes f k S T room r under performs = record {
   blames = performs.blames;
@@ -14,3 +20,15 @@ performs-under Comes f k S T room r under performs = record {
   complete = λ s. performs.complete (under s);
   before = λ s. performs.before (under s);
 }
+
+-- A command that asks for no file, and blames none but the files and `out`.
+pub none-asked : {R : Type 0} (a : Asking) (f : Seen Store) (k : Seen (List ℕ)) (r : Result Unit (Stop R)) → AsksNone a
+    → Blames f k r → AsksFor (λ m. []) (λ m. []) a r
+none-asked a f k (Ok u) none blames = none-all a none
+none-asked a f k (Err (Refused r)) none blames = none-all a none
+none-asked a f k (Err (Outside object.Files n)) none blames = none-begins a (λ m. []) (none-all a none)
+none-asked a f k (Err (Outside object.Out n)) none blames = none-all a none
+none-asked a f k (Err (Outside object.Net n)) none blames = blames
+none-asked a f k (Err (Outside (object.Link port) n)) none blames = blames
+none-asked a f k (Err (Outside object.Spawner n)) none blames = blames
+none-asked a f k (Err NoMemory) none blames = none-begins a (λ m. []) (none-all a none)

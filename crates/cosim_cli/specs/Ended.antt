@@ -1,5 +1,6 @@
 -- The status of how a command ended: of what it refuses, each in the program's words.
 use Rattle.std.specs.Prelude.{ℕ}
+use Rattle.std.specs.declared.convert.Infallible.{Infallible}
 use Rattle.std.specs.declared.result.Result.{Result}
 use Rattle.std.specs.declared.result.Result.TheVariants.{Ok, Err}
 use Rattle.outcomes.specs.declared.stop.Stop.{Stop}
@@ -68,3 +69,7 @@ run_refused (run.Child port s) = status.Child port s
 abbrev pub local_refused : LocalRefusal → Status
 local_refused (local.Inputs refusal) = inputs_refused refusal
 local_refused (local.Steps number) = status.Input (input.Line number)
+
+-- of a command that refuses nothing
+abbrev pub never_refused : Infallible → Status
+never_refused r = elim r [ ]

@@ -27,15 +27,16 @@ use Rattle.cosim_device.specs.Starts.{null_start, timer_start}
 use Rattle.cosim_device.specs.Served.{PortEnded, PortView, ServesPort}
 use Rattle.cosim_serve.specs.Talks.{Ended}
 use Rattle.cosim_cli.specs.Ended.{ended_status, show_refused, pack_refused, asm_refused, dis_refused, inputs_refused}
-use Rattle.cosim_cli.specs.Ended.{device_refused, port_refused, local_refused, run_refused}
+use Rattle.cosim_cli.specs.Ended.{device_refused, port_refused, local_refused, never_refused, run_refused}
 use Rattle.cosim_cli.specs.Help.{Helps}
+use Rattle.cosim_gen.specs.Generated.{GenComes}
 use Rattle.cosim_local.specs.declared.order.Order.{Order as RunOrder}
 use Rattle.cosim_local.specs.declared.order.Order.TheVariants as run
 use Rattle.cosim_local.specs.Locals.{LocalComes, local_names, result_names}
 use Rattle.cosim_run.specs.Conversations.{RunEnded}
 use Rattle.cosim_run.specs.Runs.{RunView, Runs}
 use Rattle.cosim_words.specs.Words.{Order, Default, Schedule, Steps}
-use Rattle.cosim_words.specs.Words.{Command, DeviceNull, DeviceTimer, DevicePort, Show, Pack, Asm, Dis, Direct, Local, Run, Help}
+use Rattle.cosim_words.specs.Words.{Command, DeviceNull, DeviceTimer, DevicePort, Show, Pack, Asm, Dis, Direct, Local, Gen, Help, Run}
 use Rattle.cosim_words.specs.Words.{IsInRange, words_of}
 
 -- what is around a call: its objects before and after it, the names that the files were asked for, whether the objects
@@ -141,6 +142,7 @@ Keeps (Direct config) a s =
 Keeps (Local config order) a s =
     (o : RunOrder) × IsNamed order o
     × Performed local_refused (LocalComes a.files.old config o) (local_names config o) (result_names config) a s
+Keeps (Gen number) a s = Performed never_refused (GenComes number) (λ m. []) (λ m. []) a s
 Keeps (Run config program) a s = Ran config program a s
 Keeps Help a s = Performed none_refused Helps (λ m. []) (λ m. []) a s
 

@@ -1,7 +1,7 @@
 // How a command ended, as a status of the program.
 ghost use Rattle.std.specs.Prelude.{◌≡◌};
 ghost use Rattle.statuses.specs.declared.status.Status.{Status};
-ghost use Rattle.cosim_cli.specs.Ended.{ended_status, show_refused, pack_refused, asm_refused, dis_refused, inputs_refused, device_refused, port_refused, local_refused, run_refused};
+ghost use Rattle.cosim_cli.specs.Ended.{ended_status, show_refused, pack_refused, asm_refused, dis_refused, inputs_refused, device_refused, port_refused, local_refused, never_refused, run_refused};
 
 use cosim_assembly::{AsmRefusal, DisRefusal};
 use cosim_device::PortRefusal;
@@ -12,6 +12,7 @@ use cosim_run::RunRefusal;
 use cosim_serve::DeviceRefusal;
 use outcomes::Stop;
 use statuses::{InputFault, Status};
+use std::convert::Infallible;
 
 /// What a command refuses.
 pub trait Refusal: Drop {
@@ -142,5 +143,13 @@ impl Refusal for LocalRefusal {
             LocalRefusal::Inputs(refusal) => refusal.status(),
             LocalRefusal::Steps { line } => Status::Input(InputFault::Line { line }),
         }
+    }
+}
+
+impl Refusal for Infallible {
+    ghost refused = { never_refused };
+
+    fn status(self) -> Status {
+        match self {}
     }
 }

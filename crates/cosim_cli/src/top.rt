@@ -15,6 +15,7 @@ use cos_children::Spawner;
 use cosim_assembly::{asm, dis};
 use cosim_device::{serve_null, serve_port, serve_timer};
 use cosim_direct::direct;
+use cosim_gen::run_generated;
 use cosim_local::local;
 use cosim_packets::{pack, show};
 use cosim_run::run;
@@ -74,6 +75,7 @@ fn perform<F: Files, K: Sink, N: Network, S: Spawner>(
         Command::Local { config, order } => {
             status_of(local(alloc, config, order_of(order), files, out))
         }
+        Command::Gen { number } => status_of(run_generated(alloc, number, out)),
         Command::Run { config, program } => {
             status_of(run(alloc, config, program, files, out, net, children))
         }
@@ -101,6 +103,7 @@ fn perform<F: Files, K: Sink, N: Network, S: Spawner>(
 /// | `direct CONFIG` | runs the machine of a configuration without packets, and prints a line for each call and the closing lines |
 /// | `local CONFIG` | runs it as ends that exchange packets, in one process, under schedule 0, and prints the same lines, a line for each link, and how many steps were effective; before, the sectors of disks are written to their `result` |
 /// | `local CONFIG schedule N`, `local CONFIG steps FILE` | the same under the schedule of a number, or a list of steps and then schedule 0 |
+/// | `gen N` | runs the machine that N generates as ends that exchange packets, in one process, under schedule N, and prints N, the number of calls, and behind them what `local` prints behind the lines of its calls |
 /// | `run CONFIG PROGRAM` | starts `PROGRAM device SOCKET CONFIG PORT` for each port, runs the machine over the links that these children connect, and prints the lines that `direct` prints |
 /// | `help` | prints a line for each command, those that are still to come among them |
 pub fn cosim<F: Files, K: Sink, E: Sink, N: Network, S: Spawner>(

@@ -79,7 +79,7 @@ fn windows(alloc: Global, ports: &[PortConfig]) -> Result<Vec<Window>, NoMemory>
 }
 
 /// A hart at reset with this RAM, and the windows of the ports.
-fn make_hart(alloc: Global, ports: &[PortConfig], ram: Ram) -> Result<AnyMaster, NoMemory>
+pub fn make_hart(alloc: Global, ports: &[PortConfig], ram: Ram) -> Result<AnyMaster, NoMemory>
     requires { fault_found (windows_of ports.now) (length ram) ≡ None }
     ensures { IfOk result (λ m. m ≡ AnyMaster.Rv (fresh_master ram (record { windows = windows_of ports.now; ram = length ram }))) }
 {

@@ -1,6 +1,6 @@
 use Rattle.std.proofs.Common.{refl}
 use Rattle.cosim_cli.proofs.Helping.{helps}
-use Rattle.cosim_cli.proofs.Performing.{performs-under}
+use Rattle.cosim_cli.proofs.Performing.{performs-under, none-asked}
 use Rattle.cosim_cli.proofs.top.perform.Goals as goal
 use Rattle.std.specs.declared.result.Result.TheVariants.{Ok, Err}
 
@@ -84,6 +84,18 @@ returns-in-Local g c =
       },
     )
 
+pub returns-in-Gen : goal.returns-in-Gen
+returns-in-Gen g c =
+    let performs = c.run_generated.ensures _ (record { count = refl; same = refl }) in
+    rw c.in-Gen.is
+    (record {
+      result = c.run_generated.result;
+      performs = performs-under _ _ _ _ _ _ c.run_generated.result (λ sound. sound.1) performs;
+      asks = none-asked _ _ _ c.run_generated.result refl performs.blames;
+      status = c.status_of-in-Gen.ensures;
+      net = record { count = refl; same = refl };
+      children = record { count = refl; same = refl };
+    })
 pub returns-in-Run : goal.returns-in-Run
 returns-in-Run g c =
     rw c.in-Run.is (record { result = c.run.result; runs = c.run.ensures; status = c.status_of-in-Run.ensures })
