@@ -15,7 +15,7 @@ use Rattle.world.specs.Stars.{star}
 use Rattle.world.specs.Worlds.{HasTaken, IsRun, IsStepped, TakesOf, WorldValue}
 use Rattle.world.proofs.Reaching.{steps-append}
 
-no-end : {A : Type 0} (front : List A) (x : A) (back : List A) → [] ≡ front ++ x ∷ back → ⊥
+pub no-end : {A : Type 0} (front : List A) (x : A) (back : List A) → [] ≡ front ++ x ∷ back → ⊥
 no-end [] x back is = cc (is)
 no-end (y ∷ front) x back is = cc (is)
 
