@@ -1,5 +1,6 @@
 // A world of ends, which knows what it began with.
-ghost use Rattle.std.specs.Prelude.{◌≡◌, ◌↔◌, ◌<◌, All, IfOk, OnErr, OnOk, Some, length, map, slice_get, true};
+ghost use Rattle.std.specs.Prelude.{◌≡◌, ◌↔◌, ◌<◌, ◌+◌, if◌then◌else◌, All, IfOk, OnErr, OnOk, Some, length, map, slice_get, true};
+ghost use Rattle.rp_framing.specs.Framing.{counted};
 ghost use Rattle.world.specs.Worlds.{IsStart, side_of};
 
 use crate::ends::{Ends, is_move, is_sending};
@@ -13,6 +14,17 @@ use packet_counts::count_packets;
 use std::alloc::Global;
 use std::marker::Model;
 use std::snapshot::Snapshot;
+
+/// A count with one more, where something moved.
+fn count_if(moved: bool, count: u64) -> u64
+    ensures { result ≡ counted (count + (if moved then 1 else 0)) }
+{
+    if moved {
+        count.saturating_add(1)
+    } else {
+        count
+    }
+}
 
 /// A machine end and device ends in memory, moved by any list of steps. Contracts see what they began with, where they
 /// are, and how many steps changed something.
@@ -108,9 +120,7 @@ impl<M: Master, D: Device> World<M, D> {
             Ok(moved) => moved,
             Err(NoMemory) => return Err(NoMemory),
         };
-        if moved {
-            self.effective = self.effective.saturating_add(1);
-        }
+        self.effective = count_if(moved, self.effective);
         Ok(moved)
     }
 
@@ -217,9 +227,7 @@ impl<M: Master, D: Device> World<M, D> {
             Err(NoMemory) => return Err(NoMemory),
         };
         rounds.pass_to_machine();
-        if is_move(turn) {
-            self.effective = self.effective.saturating_add(1);
-        }
+        self.effective = count_if(is_move(turn), self.effective);
         Ok(!is_sending(turn))
     }
 

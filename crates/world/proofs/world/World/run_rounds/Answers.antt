@@ -52,3 +52,14 @@ steps-smaller g c =
     let there = ap (λ s. measure k d s c.take_some.new.self.now c.take_some.new.rounds) start in
     let now = ap (λ w. measure k d c.steps.self.start w c.take_some.new.rounds) takes.3.now in
     omega (arith, falls, some, here, there, now)
+
+pub returns-in-Err-clause-runs : goal.returns-in-Err-clause-runs
+returns-in-Err-clause-runs g c =
+    let k = g.M.Master.model in
+    let d = g.D.Device.model in
+    let inv = c.steps.invariant in
+    let takes = c.in-Err.ensures.takes in (
+      inv.0 ++ takes.0,
+      (takes.1, gives-both _ c.steps.rounds takes.1 inv.0 takes.0 inv.1 takes.2),
+      take-both k d c.args.self.now c.steps.self c.take_some.new.self inv.0 takes.0 inv.2 takes.3,
+    )
