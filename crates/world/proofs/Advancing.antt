@@ -1,18 +1,18 @@
 -- Local units of the machine end, and then its turn, are steps of the star.
-use Rattle.std.proofs.Common.{◌≡◌, ℕ, zero, suc, ◌+◌, ◌≤◌, Bool, true, false, List, [], ◌∷◌, ◌++◌, length, map, refl, sym, ap, ◌∙◌, subst, Result, Ok, Err}
-use Rattle.std.specs.Prelude.{Option, Some, None}
+use Rattle.std.proofs.Common.{◌≡◌, ℕ, zero, suc, ◌+◌, ◌≤◌, false, List, [], ◌∷◌, length, map, refl, sym, ap, ◌∙◌, subst, Ok, Err}
+use Rattle.std.specs.Prelude.{None}
 use Rattle.cos_base.specs.declared.no_memory.NoMemory.{NoMemory}
-use Rattle.process_network.specs.Star.{Link, StarStep, star_after, star_all}
+use Rattle.process_network.specs.Star.{Link, StarStep, star_all}
 use Rattle.process_network.specs.Star.StarStep.{HubTurn}
 use Rattle.cosim_model.specs.Parts.{DeviceModel, MasterModel}
 use Rattle.ends_model.specs.declared.ends.Turn.{Turn}
 use Rattle.ends_model.specs.declared.ends.Turn.TheVariants as turn
 use Rattle.machine_turns.specs.declared.fault.PortFault.{PortFault}
 use Rattle.machine_turns.specs.declared.fault.TurnFault.TheVariants as turn_fault
-use Rattle.machine_turns.specs.Ends.{Advances as MachineAdvances, End, HasWorked as MachineWorked, IsAtFront, IsTurn, port_cause}
+use Rattle.machine_turns.specs.Ends.{Advances as MachineAdvances, End, HasWorked as MachineWorked, IsAtFront}
 use Rattle.machine_turns.proofs.Advancing.{front-same, unit-runs}
 use Rattle.world.specs.Seats.{SeatValue, leaf_of}
-use Rattle.world.specs.Stars.{Advances, Ends, HasWorked, IsHub, IsSendable, IsTaken, IsUnit, StaysSound, ends_of, is_sending, sent_links, star}
+use Rattle.world.specs.Stars.{Advances, Ends, HasWorked, IsHub, IsSendable, StaysSound, ends_of, is_sending, sent_links, star}
 use Rattle.world.proofs.Turning.{has-room-for, hub-kept, hub-moves, never-faulty, turn-keeps, turn-moves}
 
 silent-links : (t : Turn) (links : List Link) (bytes : List ℕ) → is_sending t ≡ false → sent_links links t bytes ≡ links
@@ -100,21 +100,21 @@ module _ {M S : Type 0} (k : MasterModel M) (d : DeviceModel S) where
 
       module _ (sent_leaves : map (λ (s : SeatValue S). leaf_of s.end) later ≡ map (λ (s : SeatValue S). leaf_of s.end) roomy)
           (sent_on : map (λ (s : SeatValue S). s.link) later ≡ sent_links (map (λ (s : SeatValue S). s.link) roomy) t piece)
-          where
-        pub advanced-hub : IsHub new (links later)
-        advanced-hub =
-            turn-keeps k d call.mid new seats roomy later (up call.mid call.worked).0 before after piece cleared piece_is
-            room_leaves room_links (ends_of call.mid seats) refl t call.turns sent_leaves sent_on
+        where
+          pub advanced-hub : IsHub new (links later)
+          advanced-hub =
+              turn-keeps k d call.mid new seats roomy later (up call.mid call.worked).0 before after piece cleared piece_is
+              room_leaves room_links (ends_of call.mid seats) refl t call.turns sent_leaves sent_on
 
-        pub advanced-ends : Advances k d units w (ends_of new later) (Ok t)
-        advanced-ends = record {
-          mid = ends_of call.mid seats;
-          worked = subst (λ v. HasWorked k d units v (ends_of call.mid seats)) same (up call.mid call.worked).1;
-          turns = record {
-            moved =
-                turn-moves k d call.mid new seats roomy later (up call.mid call.worked).0 before after piece cleared piece_is
-                room_leaves room_links (ends_of call.mid seats) refl t call.turns sent_leaves sent_on;
-            leaves = sent_leaves ∙ room_leaves;
-            links = λ silent. sent_on ∙ silent-links t (map (λ (s : SeatValue S). s.link) roomy) piece silent ∙ room_links;
-          };
-        }
+          pub advanced-ends : Advances k d units w (ends_of new later) (Ok t)
+          advanced-ends = record {
+            mid = ends_of call.mid seats;
+            worked = subst (λ v. HasWorked k d units v (ends_of call.mid seats)) same (up call.mid call.worked).1;
+            turns = record {
+              moved =
+                  turn-moves k d call.mid new seats roomy later (up call.mid call.worked).0 before after piece cleared piece_is
+                  room_leaves room_links (ends_of call.mid seats) refl t call.turns sent_leaves sent_on;
+              leaves = sent_leaves ∙ room_leaves;
+              links = λ silent. sent_on ∙ silent-links t (map (λ (s : SeatValue S). s.link) roomy) piece silent ∙ room_links;
+            };
+          }
