@@ -1,5 +1,5 @@
 -- Under the rounds of a number a world comes to its end: how many steps are left.
-use Rattle.std.proofs.Common.{◌≡◌, ◌⊎◌, inl, inr, ℕ, zero, suc, ◌+◌, ◌*◌, ◌<◌, ◌≤◌, Bool, true, false, List, [], ◌∷◌, ◌++◌, length, map, refl, sym, ap, ◌∙◌, subst, arith, drop, get_or}
+use Rattle.std.proofs.Common.{◌≡◌, ◌⊎◌, inl, inr, ℕ, zero, suc, ◌+◌, ◌<◌, ◌≤◌, Bool, true, false, List, [], ◌∷◌, ◌++◌, length, map, refl, sym, ap, ◌∙◌, subst, arith}
 use Rattle.std.specs.Prelude.{if◌then◌else◌}
 use Rattle.process_network.specs.Star.{IsStarMonotone, IsStarQuiescent, StarStep, star_after, star_all, star_effective, star_effective_steps}
 use Rattle.process_network.proofs.CalmRuns.{all_append}
@@ -11,18 +11,19 @@ use Rattle.ends_model.specs.declared.ends.Phase.TheVariants.{Greet, Meet, Run, A
 use Rattle.ends_model.specs.World.{Fit, ends}
 use Rattle.every_schedule.specs.Schedules as all
 use Rattle.every_schedule.proofs.Bounded.{bounded}
+use Rattle.rp_framing.specs.Framing.{counted}
 use Rattle.rp_packet.specs.CodecLaws.{codec-laws}
 use Rattle.rp_packet.specs.Streams.{packet_codec}
 use Rattle.cos_schedules.specs.declared.step.Step.{Step}
 use Rattle.cos_schedules.specs.declared.step.Step.TheVariants.{Machine}
-use Rattle.cos_schedules.specs.Courses.{Course, Gives, begun, begun_at}
+use Rattle.cos_schedules.specs.Courses.{Course, Gives, GivesAll, begun, begun_at}
 use Rattle.cos_schedules.specs.Schedules.{after_round, base_length, round}
 use Rattle.cos_schedules.specs.Stars.{star_step}
 use Rattle.cos_schedules.proofs.Courses.{begun-left, begun-same, length-round}
 use Rattle.cos_schedules.proofs.StarRounds.{star-round}
 use Rattle.world.specs.Stars.{Ends, star}
 use Rattle.world.specs.Worlds.{IsReached, Start, WorldValue, after_steps, begun as begun_ends}
-use Rattle.world.proofs.Reaching.{leaves-long, links-long, steps-append, theorem}
+use Rattle.world.proofs.Reaching.{leaves-long, links-long, next-reached, steps-append, theorem}
 
 -- so many rounds and one more, of n ports
 abbrev pub enough : ℕ → ℕ → ℕ
@@ -298,3 +299,36 @@ course-keeps c new step n gives long short = by c.left refl
         let at : begun c ≡ c = ap (begun_at c) some in
         let size : length (begun c).left ≡ length c.left = ap (λ (x : Course). length x.left) at in
         (ports-are ∙ ap (λ (x : Course). x.ports) at ∙ long, omega (arith, left-are, size, short))
+
+-- The same of steps that a course gives one after another.
+
+pub course-keeps-all : (c new : Course) (steps : List Step) (n : ℕ) → GivesAll c steps new → c.ports ≡ n
+    → length c.left ≤ base_length n → (new.ports ≡ n) × (length new.left ≤ base_length n)
+course-keeps-all c new [] n gives long short =
+    (ap (λ (x : Course). x.ports) (sym gives) ∙ long, (let same = ap (λ (x : Course). length x.left) gives in omega (arith, same, short)))
+course-keeps-all c new (s ∷ steps) n gives long short =
+    let keeps = course-keeps c gives.0 s n gives.1 long short in
+    course-keeps-all gives.0 new steps n gives.2 keeps.0 keeps.1
+
+pub measure-falls-all : {M S : Type 0} (k : MasterModel M) (d : DeviceModel S) → IsDevice d → IsMaster k
+    → (steps : List Step) (w : WorldValue M S) → IsReached k d w → (c new : Course) → GivesAll c steps new
+    → c.ports ≡ length w.start.ports → length c.left ≤ base_length (length w.start.ports)
+    → ((front : List Step) (step : Step) (back : List Step) → steps ≡ front ++ step ∷ back
+    → (star_all (star k d) w.now (map star_step front)).hub.core.phase ≡ Done → ⊥)
+    → measure k d w.start (star_all (star k d) w.now (map star_step steps)) new + length steps ≤ measure k d w.start w.now c
+measure-falls-all k d device_laws master_laws [] w is c new gives long short going =
+    let same = ap (measure k d w.start w.now) gives in omega (arith, same)
+measure-falls-all {M} {S} k d device_laws master_laws (s ∷ steps) w is c new gives long short going =
+    let moved = star_effective (star k d) w.now (star_step s) in
+    let next : WorldValue M S = record {
+      start = w.start;
+      now = star_after (star k d) w.now (star_step s);
+      effective = counted (w.effective + (if moved then 1 else 0));
+    } in
+    let reached = next-reached k d w next (star_step s) moved is
+    (record { now = refl; moved_is = refl; effective = refl; start = refl }) in
+    let keeps = course-keeps c gives.0 s (length w.start.ports) gives.1 long short in
+    let one = measure-falls k d device_laws master_laws w is c gives.0 s gives.1 long short (going [] s steps refl) in
+    let rest = measure-falls-all k d device_laws master_laws steps next reached gives.0 new gives.2 keeps.0 keeps.1
+    (λ front step back same done. going (s ∷ front) step back (ap (λ l. s ∷ l) same) done) in
+    omega (arith, one, rest)

@@ -3,6 +3,8 @@ mod Stepping
 mod Backing
 mod Turning
 mod Rooming
+mod Advancing
+mod Quiet
 mod Making
 mod Reaching
 mod Taking

@@ -1,7 +1,7 @@
 -- Steps that a world took, one after another.
-use Rattle.std.proofs.Common.{◌≡◌, ◌⊎◌, inl, inr, ℕ, zero, suc, ◌+◌, List, [], ◌∷◌, ◌++◌, length, map, refl, sym, ap, ◌∙◌, subst, arith, append_assoc, if◌then◌else◌, Bool, Ok}
+use Rattle.std.proofs.Common.{◌≡◌, ◌⊎◌, inl, inr, ℕ, ◌+◌, List, [], ◌∷◌, ◌++◌, length, map, refl, sym, ap, ◌∙◌, subst, arith, if◌then◌else◌, Bool, Ok}
 use Rattle.std.proofs.lemmas.List.{append-nil, map-append}
-use Rattle.process_network.specs.Star.{StarStep, star_all, star_effective_steps}
+use Rattle.process_network.specs.Star.{star_all, star_effective_steps}
 use Rattle.process_network.proofs.CalmRuns.{all_append}
 use Rattle.cosim_model.specs.Parts.{DeviceModel, MasterModel}
 use Rattle.ends_model.specs.declared.ends.Phase.TheVariants.{Done}
@@ -15,7 +15,7 @@ use Rattle.world.specs.Stars.{star}
 use Rattle.world.specs.Worlds.{HasTaken, IsRun, IsStepped, TakesOf, WorldValue}
 use Rattle.world.proofs.Reaching.{steps-append}
 
-no-end : {A : Type 0} (front : List A) (x : A) (back : List A) → [] ≡ front ++ x ∷ back → ⊥
+pub no-end : {A : Type 0} (front : List A) (x : A) (back : List A) → [] ≡ front ++ x ∷ back → ⊥
 no-end [] x back is = cc (is)
 no-end (y ∷ front) x back is = cc (is)
 

@@ -1,9 +1,12 @@
 -- The ends of a world as a star: the machine end is the hub, and the device end of a port is a leaf.
-use Rattle.std.specs.Prelude.{◌≡◌, ℕ, ◌<◌, ◌≤◌, Bool, true, false, List, [], ◌++◌, length, take, drop, map, get_or, set, slice_get, Option, Some, None, IsSome}
+use Rattle.std.specs.Prelude.{◌≡◌, ℕ, zero, suc, ◌<◌, ◌≤◌, Bool, true, false, ◌||◌, List, [], ◌++◌, length, take, drop, map, get_or, set, slice_get, Option, Some, None, IsSome, Result, Ok, Err}
+use Rattle.cos_base.specs.declared.no_memory.NoMemory.{NoMemory}
 use Rattle.process_network.specs.PacketStar.{HubEnd, LeafEnd, fresh_hub, fresh_leaf, star_of}
 use Rattle.process_network.specs.Star.{Link, Star, StarStep, StarWorld, hub_received, leaf_received, leaf_turn_of}
-use Rattle.process_network.specs.Star.{new_link, star_after, star_effective, star_start}
+use Rattle.process_network.specs.Star.{new_link, star_after, star_all, star_effective, star_start}
+use Rattle.process_network.specs.Star.StarStep.{HubTurn, LeafTurn, DeliverOut, DeliverBack}
 use Rattle.cosim_model.specs.Parts.{DeviceModel, MasterModel}
+use Rattle.ends_model.specs.declared.ends.Phase.TheVariants.{Done}
 use Rattle.ends_model.specs.declared.ends.Turn.{Turn}
 use Rattle.ends_model.specs.declared.ends.Turn.TheVariants as turn
 use Rattle.cosim_model.specs.Packets.{Decoded}
@@ -15,8 +18,11 @@ use Rattle.rp_packet.specs.declared.fault.Cause.{Cause}
 use Rattle.rp_packet.specs.Streams.{packet_codec}
 use Rattle.device_turns.specs.Ends.{End as DeviceTurns, core_of as device_core}
 use Rattle.machine_turns.specs.Ends.{End, Received, core_of}
+use Rattle.cos_schedules.specs.declared.step.Step.{Step}
 use Rattle.cos_schedules.specs.declared.step.Way.{Way}
 use Rattle.cos_schedules.specs.declared.step.Way.TheVariants.{Out, Back}
+use Rattle.cos_schedules.specs.Courses.{is_machine}
+use Rattle.cos_schedules.specs.Stars.{star_step}
 use Rattle.world.specs.Seats.{SeatValue, leaf_of}
 
 abbrev pub Hub : Type 0 → Type 0
@@ -107,6 +113,59 @@ is_move (turn.Served p) = true
 is_move turn.Marked = true
 is_move (turn.NotYet p) = false
 is_move turn.Done = false
+
+-- whether it sent something
+abbrev pub is_sending : Turn → Bool
+is_sending (turn.Sent p) = true
+is_sending turn.Unit = false
+is_sending (turn.Took p) = false
+is_sending (turn.Served p) = false
+is_sending turn.Marked = false
+is_sending (turn.NotYet p) = false
+is_sending turn.Done = false
+
+module _ {M S : Type 0} (k : MasterModel M) (d : DeviceModel S) where
+  -- No turn meets a fault, wherever steps lead from here.
+  abbrev pub StaysSound : Ends M S → Type 0
+  StaysSound w = (steps : List StarStep) → IsSound k d (star_all (star k d) w steps)
+
+  -- No delivery and no turn of a device end would change anything.
+  abbrev pub IsQuiet : Ends M S → Type 0
+  IsQuiet w = (step : Step) → is_machine step ≡ false → star_effective (star k d) w (star_step step) ≡ false
+
+  -- A delivery of a port, or the turn of its device end, would change something.
+  abbrev pub is_busy : Ends M S → ℕ → Bool
+  is_busy w p =
+      (star_effective (star k d) w (DeliverOut p 1) || star_effective (star k d) w (LeafTurn p))
+      || star_effective (star k d) w (DeliverBack p 1)
+
+  -- A turn of the machine end, which changes it alone, and behind which it goes on.
+  pub record IsUnit (old new : Ends M S) : Type 0 where
+    pub moved : IsMoved k d old new HubTurn true
+    pub leaves : new.leaves ≡ old.leaves
+    pub links : new.links ≡ old.links
+    pub going : new.hub.core.phase ≡ Done → ⊥
+
+  -- so many of them
+  abbrev pub HasWorked : ℕ → Ends M S → Ends M S → Type 0
+  HasWorked zero old new = new ≡ old
+  HasWorked (suc units) old new = (mid : Ends M S) × IsUnit old mid × HasWorked units mid new
+
+  -- a turn of the machine end that answered this
+  pub record IsTaken (old new : Ends M S) (t : Turn) : Type 0 where
+    pub moved : IsMoved k d old new HubTurn (is_move t)
+    pub leaves : new.leaves ≡ old.leaves
+    pub links : is_sending t ≡ false → new.links ≡ old.links
+
+  abbrev pub TurnsOnce : Ends M S → Ends M S → Result Turn NoMemory → Type 0
+  TurnsOnce old new (Ok t) = IsTaken old new t
+  TurnsOnce old new (Err e) = new ≡ old
+
+  -- So many local units of the machine end, and then its turn, or want of memory.
+  pub record Advances (units : ℕ) (old new : Ends M S) (r : Result Turn NoMemory) : Type 0 where
+    pub mid : Ends M S
+    pub worked : HasWorked units old mid
+    pub turns : TurnsOnce mid new r
 
 -- what was sent on a link that way
 abbrev pub sent_on : Way → Link → List ℕ

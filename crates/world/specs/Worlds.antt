@@ -1,16 +1,14 @@
 -- A world: where its ends are, what they began with, and what its calls promise. `every_schedule` is the theorem
 -- behind.
 use Rattle.std.specs.Prelude.{◌≡◌, ℕ, ◌+◌, ◌≤◌, ◌⊎◌, Bool, true, if◌then◌else◌, List, [], ◌∷◌, ◌++◌, length, map}
-use Rattle.std.specs.Prelude.{Option, Some, None, OnOk, Result, slice_get}
+use Rattle.std.specs.Prelude.{Some, None, OnOk, Result, Ok, Err, slice_get}
 use Rattle.cos_base.specs.declared.no_memory.NoMemory.{NoMemory}
 use Rattle.process_network.specs.Network.{IsPrefix}
-use Rattle.process_network.specs.PacketStar.{HubEnd, LeafEnd, star_of}
 use Rattle.process_network.specs.Star.{StarStep, hub_received, link, star_after, star_all, star_effective}
 use Rattle.process_network.specs.Star.{star_effective_steps}
 use Rattle.cosim_model.specs.declared.values.Plan.{Plan}
 use Rattle.cosim_model.specs.Parts.{DeviceModel, MasterModel}
 use Rattle.ends_model.specs.declared.ends.Phase.TheVariants.{Done}
-use Rattle.ends_model.specs.DeviceTurn.{DeviceEnd}
 use Rattle.ends_model.specs.World.{Fit, Side, device_start, of_port, start, world}
 use Rattle.every_schedule.specs.Schedules as all
 use Rattle.rp_framing.specs.Framing.{counted}
@@ -19,6 +17,7 @@ use Rattle.rp_packet.specs.Streams.{packet_codec}
 use Rattle.cos_schedules.specs.declared.schedule.Schedule.{Schedule}
 use Rattle.cos_schedules.specs.declared.step.Step.{Step}
 use Rattle.cos_schedules.specs.Beginnings.{BeginsWith}
+use Rattle.cos_schedules.specs.Courses.{Course, GivesAll}
 use Rattle.cos_schedules.specs.Stars.{star_step}
 use Rattle.device_turns.specs.Ends.{End as DeviceTurns, fresh as fresh_end}
 use Rattle.world.specs.Stars.{Ends, Hub, Leaf, star}
@@ -133,3 +132,12 @@ module _ {M S : Type 0} (k : MasterModel M) (d : DeviceModel S) where
   TakesOf list old new result =
       (steps : List Step) × (rest : List Step) × (list ≡ steps ++ rest) × HasTaken old new steps
       × OnOk result ((rest ≡ []) ⊎ (new.now.hub.core.phase ≡ Done))
+
+  -- Steps that a course gives were taken: at least one, up to where the course is; or, where memory ran out, some that it
+  -- gave from its start on.
+  abbrev pub TakesNext :
+      Course → Course → WorldValue M S → WorldValue M S → Result Bool NoMemory → Type 0
+  TakesNext from to old new (Ok quiet) =
+      (steps : List Step) × (1 ≤ length steps) × GivesAll from steps to × HasTaken old new steps
+  TakesNext from to old new (Err e) =
+      (steps : List Step) × (mid : Course) × GivesAll from steps mid × HasTaken old new steps

@@ -2,7 +2,7 @@
 ghost use Rattle.std.specs.Prelude.{◌≡◌, All, IfOk, OnOk, length, map};
 ghost use Rattle.process_network.specs.Star.{new_link};
 ghost use Rattle.world.specs.Seats.{IsFresh, leaf_of};
-ghost use Rattle.world.specs.Stars.{HaveRoom, IsSendable, is_move, sent_links};
+ghost use Rattle.world.specs.Stars.{HaveRoom, IsSendable, is_move, is_sending, sent_links};
 
 use crate::seat::Seat;
 use cos_api::{Device, Master};
@@ -76,13 +76,23 @@ fn send<D: Device>(seats: &mut Vec<Seat<D>>, turn: Turn, piece: &[u8])
 }
 
 /// Whether a turn that answered this changed the machine end.
-fn is_move(turn: Turn) -> bool
+pub fn is_move(turn: Turn) -> bool
     ensures { result ≡ is_move turn }
 {
     match turn {
         Turn::NotYet { port: _ } => false,
         Turn::Done => false,
         _ => true,
+    }
+}
+
+/// Whether a turn that answered this sent something.
+pub fn is_sending(turn: Turn) -> bool
+    ensures { result ≡ is_sending turn }
+{
+    match turn {
+        Turn::Sent { port: _ } => true,
+        _ => false,
     }
 }
 
@@ -113,7 +123,7 @@ impl<M: Master, D: Device> Ends<M, D> {
     ghost use Rattle.process_network.specs.Star.StarStep.{HubTurn, LeafTurn, DeliverOut, DeliverBack};
     ghost use Rattle.cos_schedules.specs.Stars.{star_step};
     ghost use Rattle.machine_turns.specs.Ends.{fresh as fresh_machine};
-    ghost use Rattle.world.specs.Stars.{HasAnswer, IsMoved, IsSound, hub_of, sent_on, star, unsent};
+    ghost use Rattle.world.specs.Stars.{Advances, HasAnswer, IsMoved, IsSound, StaysSound, hub_of, sent_on, star, unsent};
 
     /// Ends of which none has taken a turn or received anything.
     pub fn make(
@@ -228,6 +238,28 @@ impl<M: Master, D: Device> Ends<M, D> {
         };
         send(&mut self.seats, turn, self.piece.as_slice());
         Ok(is_move(turn))
+    }
+
+    /// The machine end takes the local units that come next, up to the next boundary or access, and then its turn. In
+    /// `units` it tells how many units came before that turn. Room for what the turn can send is made first, on every
+    /// port. `NoMemory` leaves all as it is behind those units.
+    pub fn advance(&mut self, units: &mut u64) -> Result<Turn, NoMemory>
+        requires { StaysSound M.model D.model self.old }
+        ensures { Advances M.model D.model units.new self.old self.new result }
+    {
+        *units = 0;
+        match make_room(&mut self.seats) {
+            Ok(()) => {}
+            Err(NoMemory) => return Err(NoMemory),
+        }
+        self.piece.clear();
+        let turn = match self.machine.advance(&mut self.piece, units) {
+            Ok(turn) => turn,
+            Err(TurnFault::NoMemory) => return Err(NoMemory),
+            Err(TurnFault::Port(_)) => unreachable!(),
+        };
+        send(&mut self.seats, turn, self.piece.as_slice());
+        Ok(turn)
     }
 
     /// Delivers bytes to the device end of a port, at most so many.

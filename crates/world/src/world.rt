@@ -1,8 +1,9 @@
 // A world of ends, which knows what it began with.
-ghost use Rattle.std.specs.Prelude.{◌≡◌, ◌↔◌, ◌<◌, All, IfOk, OnErr, OnOk, Some, length, map, slice_get, true};
+ghost use Rattle.std.specs.Prelude.{◌≡◌, ◌↔◌, ◌<◌, ◌+◌, if◌then◌else◌, All, IfOk, OnErr, OnOk, Some, length, map, slice_get, true};
+ghost use Rattle.rp_framing.specs.Framing.{counted};
 ghost use Rattle.world.specs.Worlds.{IsStart, side_of};
 
-use crate::ends::Ends;
+use crate::ends::{Ends, is_move, is_sending};
 use cos_api::{Device, Master};
 use cos_base::NoMemory;
 use cos_schedules::{Rounds, Schedule, Step, Way};
@@ -13,6 +14,17 @@ use packet_counts::count_packets;
 use std::alloc::Global;
 use std::marker::Model;
 use std::snapshot::Snapshot;
+
+/// A count with one more, where something moved.
+fn count_if(moved: bool, count: u64) -> u64
+    ensures { result ≡ counted (count + (if moved then 1 else 0)) }
+{
+    if moved {
+        count.saturating_add(1)
+    } else {
+        count
+    }
+}
 
 /// A machine end and device ends in memory, moved by any list of steps. Contracts see what they began with, where they
 /// are, and how many steps changed something.
@@ -61,8 +73,8 @@ impl<M: Master, D: Device> World<M, D> {
     ghost use Rattle.every_schedule.specs.Counts.{packets_in};
     ghost use Rattle.rp_packet.specs.Streams.{packet_codec};
     ghost use Rattle.world.specs.Seats.{leaf_of};
-    ghost use Rattle.world.specs.Stars.{hub_of, sent_on, star};
-    ghost use Rattle.world.specs.Worlds.{IsOnItsWay, IsOver, IsReached, IsRun, IsStepped, TakesOf, fresh_world};
+    ghost use Rattle.world.specs.Stars.{IsQuiet, hub_of, is_busy, sent_on, star};
+    ghost use Rattle.world.specs.Worlds.{IsOnItsWay, IsOver, IsReached, IsRun, IsStepped, TakesNext, TakesOf, fresh_world};
 
     /// A world in which no step was taken.
     ///
@@ -108,9 +120,7 @@ impl<M: Master, D: Device> World<M, D> {
             Ok(moved) => moved,
             Err(NoMemory) => return Err(NoMemory),
         };
-        if moved {
-            self.effective = self.effective.saturating_add(1);
-        }
+        self.effective = count_if(moved, self.effective);
         Ok(moved)
     }
 
@@ -153,6 +163,89 @@ impl<M: Master, D: Device> World<M, D> {
         Ok(())
     }
 
+    /// Whether no delivery and no turn of a device end would change anything. It takes no memory.
+    fn is_quiet(&self) -> bool
+        ensures { (result ≡ true) ↔ IsQuiet M.model D.model self.now.now }
+    {
+        self.is_on_its_way();
+        let ports = self.ports();
+        let mut port = 0;
+        'ports: while port < ports {
+            if self.is_busy(port) {
+                return false;
+            }
+            port += 1;
+        }
+        true
+    }
+
+    /// Whether a delivery on a port, or the turn of its device end, would change something.
+    fn is_busy(&self, port: u32) -> bool
+        ensures { result ≡ is_busy M.model D.model self.now.now port }
+    {
+        let out = Step::Deliver {
+            port,
+            way: Way::Out,
+            count: 1,
+        };
+        let back = Step::Deliver {
+            port,
+            way: Way::Back,
+            count: 1,
+        };
+        self.can_step(out) || self.can_step(Step::Device { port }) || self.can_step(back)
+    }
+
+    /// Takes the next step of a schedule. Behind the machine's it looks whether all is quiet, and tells that.
+    fn take_next(&mut self, rounds: &mut Rounds) -> Result<bool, NoMemory>
+        requires { self.old.now.hub.core.phase ≡ Phase.Done → ⊥ }
+        ensures takes { TakesNext M.model D.model rounds.old rounds.new self.old self.new result }
+        ensures quiet { IfOk result (λ quiet. quiet ≡ true → IsQuiet M.model D.model self.new.now) }
+    {
+        self.is_on_its_way();
+        let step = rounds.next();
+        match self.step(step) {
+            Ok(_) => Ok(matches!(step, Step::Machine) && self.is_quiet()),
+            Err(NoMemory) => Err(NoMemory),
+        }
+    }
+
+    /// Where all is quiet: the machine end takes the local units that come next, and then its turn. The other steps up to
+    /// there would change nothing, so they are passed over. It tells whether all is still quiet.
+    fn take_turns(&mut self, rounds: &mut Rounds) -> Result<bool, NoMemory>
+        requires going { self.old.now.hub.core.phase ≡ Phase.Done → ⊥ }
+        requires quiet { IsQuiet M.model D.model self.old.now }
+        ensures takes { TakesNext M.model D.model rounds.old rounds.new self.old self.new result }
+        ensures quiet { IfOk result (λ quiet. quiet ≡ true → IsQuiet M.model D.model self.new.now) }
+    {
+        let mut units = 0;
+        let answer = self.ends.advance(&mut units);
+        self.effective = self.effective.saturating_add(units);
+        rounds.pass_turns(units);
+        let turn = match answer {
+            Ok(turn) => turn,
+            Err(NoMemory) => return Err(NoMemory),
+        };
+        rounds.pass_to_machine();
+        self.effective = count_if(is_move(turn), self.effective);
+        Ok(!is_sending(turn))
+    }
+
+    /// Takes steps that a schedule gives next, at least one. It tells whether all is quiet behind them, as it is told
+    /// whether all is quiet now.
+    fn take_some(&mut self, rounds: &mut Rounds, quiet: bool) -> Result<bool, NoMemory>
+        requires going { self.old.now.hub.core.phase ≡ Phase.Done → ⊥ }
+        requires quiet { quiet ≡ true → IsQuiet M.model D.model self.old.now }
+        ensures takes { TakesNext M.model D.model rounds.old rounds.new self.old self.new result }
+        ensures quiet { IfOk result (λ quiet. quiet ≡ true → IsQuiet M.model D.model self.new.now) }
+    {
+        if quiet {
+            self.take_turns(rounds)
+        } else {
+            self.take_next(rounds)
+        }
+    }
+
     /// Takes the steps of the rounds of a number, until the machine end is done.
     fn run_rounds(&mut self, number: u32) -> Result<(), NoMemory>
         ensures runs { IsRun M.model D.model (Number number) self.old self.new }
@@ -161,11 +254,11 @@ impl<M: Master, D: Device> World<M, D> {
     {
         self.is_on_its_way();
         let mut rounds = Rounds::make(number, self.ports());
+        let mut quiet = false;
         'steps: while !self.is_finished() {
             self.is_on_its_way();
-            let step = rounds.next();
-            match self.step(step) {
-                Ok(_) => {}
+            match self.take_some(&mut rounds, quiet) {
+                Ok(now) => quiet = now,
                 Err(NoMemory) => return Err(NoMemory),
             }
         }
