@@ -39,7 +39,7 @@ use Rattle.cosim_run.specs.Conversations.{Converses, IsAll, IsConversation, IsDr
 use Rattle.cosim_run.proofs.Lined.{run-lines}
 use Rattle.cosim_run.specs.Conversations.{RunEnded, start_end, StopsSoundly, undriven, undriven_at, unopened}
 
-words-each : (program config : List ℕ) (port : ℕ) (sockets : List (List ℕ))
+pub words-each : (program config : List ℕ) (port : ℕ) (sockets : List (List ℕ))
     → length (words_from program config port sockets) ≡ length sockets
 words-each program config port [] = refl
 words-each program config port (s ∷ ss) = ap suc (words-each program config (port + 1) ss)

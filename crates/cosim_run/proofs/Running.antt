@@ -1,10 +1,10 @@
 -- The run of a machine with its children: what holds after the waits.
-use Rattle.std.specs.Prelude.{IfSome, IsSomeAnd}
-use Rattle.std.proofs.Common.{◌≡◌, ℕ, ◌<◌, ◌≤◌, List, [], ◌∷◌, ◌++◌, length, map, refl, sym, ap, ◌∙◌, subst, arith}
+use Rattle.std.specs.Prelude.{IfErr, IfOk, IfSome, IsSome}
+use Rattle.std.proofs.Common.{◌≡◌, ℕ, ◌+◌, ◌<◌, ◌≤◌, List, [], ◌∷◌, ◌++◌, length, map, refl, sym, ap, ◌∙◌, subst, arith}
 use Rattle.std.proofs.Common.{Result, Ok, Err}
 use Rattle.std.specs.declared.option.Option.{Option}
 use Rattle.std.specs.declared.option.Option.TheVariants.{Some, None}
-use Rattle.std.proofs.lemmas.List.{length-map}
+use Rattle.std.proofs.lemmas.List.{length-append, length-map}
 use Rattle.cos_base.specs.Links.{Wire}
 use Rattle.cos_base.specs.Networks.{Coming}
 use Rattle.cos_children.specs.Children.{AreChildren, Children}
@@ -36,17 +36,19 @@ use Rattle.port_children.specs.declared.fault.WaitFault.{WaitFault}
 use Rattle.port_children.specs.declared.fault.WaitFault.TheVariants as wait
 use Rattle.port_children.specs.ChildLaws.{all-run, as-before}
 use Rattle.port_children.specs.Opened.{with_all}
+use Rattle.port_children.specs.Peers.{sockets_of, words_from}
 use Rattle.port_children.specs.Waited.{AllRun, Given, IsWaited, NotSpawner, with_waits}
 use Rattle.rp_packet.specs.Streams.{packet_codec}
 use Rattle.run_texts.specs.Texts.{run_lines}
 use Rattle.transcript.specs.ClosingLines.{run_text}
 use Rattle.cosim_run.specs.declared.refusal.RunRefusal.{RunRefusal}
 use Rattle.cosim_run.specs.Conversations.{IsConversation, IsDrivenOver, Machine, RunEnded, StopsSoundly}
+use Rattle.cosim_run.proofs.Conversing.{words-each}
 use Rattle.cosim_run.specs.declared.command.Finished.{Finished}
 use Rattle.cosim_run.specs.declared.conversation.Driven.{Driven}
 use Rattle.cosim_run.specs.Runs.{EndsAfter, IfDone, IsRun, Prints, PrintsDirectly, RunView, RunsSoundly, WithChildren}
 use Rattle.cosim_run.specs.Runs.{lines_of, unended}
-use Rattle.cosim_run.specs.Steps.{IsFinished, RanIll, RanWell, StopsBy}
+use Rattle.cosim_run.specs.Steps.{ComesDriven, ComesUndriven, IsFinished, RanIll, RanWell, StopsBy}
 
 -- The lines of an end that was left as the direct machine is.
 lines-same : (left : Machine) (r : Direct AnyMaster AnyDevice) (ports : List PortConfig) → left.master ≡ r.master
@@ -129,18 +131,43 @@ module _ {L : Type 0} (program config : List ℕ) (view : NetView L) (p : Parts)
   -- each runs before it is waited for
   pub children-run : (first : Seen Children) (mid : Option Children) (numbers : List ℕ) (left : Machine)
       (driven : RunEnded) → mid ≡ first.new → IfSome first.new AreChildren
-      → IsSomeAnd first.old (λ c. Unit {0}) → IsConversation program config view p net first numbers left driven
+      → IsSome first.old → IsConversation program config view p net first numbers left driven
       → IfSome mid (AllRun numbers)
   children-run first mid numbers left driven same are told talks =
       subst (λ o. IfSome o (AllRun numbers)) (sym same) (by first.old first.new told are talks.starts)
     where
-      by : (old new : Option Children) → IsSomeAnd old (λ c. Unit {0}) → IfSome new AreChildren
+      by : (old new : Option Children) → IsSome old → IfSome new AreChildren
           → IfSome old (λ o. IfSome new (λ n. n ≡ with_all o talks.to.started numbers)) → IfSome new (AllRun numbers)
-      by None new some are starts = absurd some
+      by None new some are starts = absurd (cc (some))
       by (Some o) None some are starts = tt
       by (Some o) (Some n) some are starts =
           subst (AllRun numbers) (sym starts)
           (all-run talks.to.started numbers o (subst AreChildren starts are) talks.each)
+
+-- There are at most as many children as ports.
+
+few : {L : Type 0} (program config : List ℕ) (view : NetView L) (p : Parts) (net : Seen (Coming L))
+    (children : Seen Children) (numbers : List ℕ) (left : Machine) (r : RunEnded) → MayRun p
+    → IsConversation program config view p net children numbers left r → length numbers ≤ 16
+few program config view p net children numbers left r may talks =
+    let sockets = sockets_of p.config.ports in
+    let words = words_from program config 0 sockets in
+    let each : length numbers ≡ length talks.to.started = talks.each in
+    let some : length words ≡ length talks.to.started + length talks.to.unstarted =
+    ap length talks.words ∙ length-append talks.to.started talks.to.unstarted in
+    let all : length words ≡ length p.config.ports =
+    words-each program config 0 sockets ∙ length-map p.config.ports _ in
+    let most : length p.config.ports ≤ 16 = may.few in
+    omega (arith, each, some, all, most)
+
+pub few-numbers : {L : Type 0} (program config : List ℕ) (view : NetView L) (p : Parts) (net : Seen (Coming L))
+    (children : Seen Children) (numbers : List ℕ) (r : Result Driven (Stop RunRefusal)) → MayRun p
+    → IfOk r (ComesDriven program config view p net children numbers)
+    → IfErr r (ComesUndriven program config view p net children numbers) → length numbers ≤ 16
+few-numbers program config view p net children numbers (Ok d) may ok err =
+    few program config view p net children numbers d.end.clear (Ok tt) may ok.talks
+few-numbers program config view p net children numbers (Err e) may ok err =
+    few program config view p net children numbers err.left (Err e) may err.talks
 
 -- What is blamed soundly.
 pub ends-soundly : {L : Type 0} (p : Parts) (net : Seen (Coming L)) (f : WaitFault) → NotSpawner (Err f)

@@ -6,6 +6,8 @@ ghost use Rattle.outcomes.specs.Seen.{seen};
 ghost use Rattle.transcript.specs.CallLines.{HasLine};
 ghost use Rattle.transcript.specs.ClosingLines.{run_text};
 ghost use Rattle.outcomes.specs.Steps.{IsPrinted, IsRoomFor};
+ghost use Rattle.run_texts.specs.Endings.{IsEnding};
+ghost use Rattle.run_texts.specs.Texts.{uarts_from};
 ghost use Rattle.cosim_run.specs.Conversations.{StopsSoundly};
 ghost use Rattle.cosim_run.specs.Runs.{Runs, unended};
 ghost use Rattle.cosim_run.specs.Steps.{IsFinished, RanIll, RanWell, unread};
@@ -15,8 +17,10 @@ use crate::refusal::RunRefusal;
 use configured_machine::{Parts, read_parts};
 use cos_base::{Failed, Files, Network, NoMemory, Octets, Sink};
 use cos_children::Spawner;
-use cos_config::Sockets;
+use cos_config::{PortConfig, Sockets};
+use cos_parts::AnyMaster;
 use cosim_inputs::InputsRefusal;
+use machine_turns::MachineEnd;
 use outcomes::{Object, OutFailure, ReadFault, Stop};
 use port_children::{WaitFault, wait_for_all};
 use run_texts::{ending_of, make_piece, uarts_of};
@@ -101,6 +105,26 @@ fn run_parts<N: Network, S: Spawner>(
     }
 }
 
+/// How a run ended that left this end, and what the UARTs of these ports sent.
+fn ending_of_end(
+    alloc: Global,
+    ports: &[PortConfig],
+    end: &MachineEnd<AnyMaster>,
+) -> Result<Ending, NoMemory>
+    requires { length ports.now ≤ 16 }
+    ensures { IfOk result (IsEnding end.now.clear.calls end.now.clear.master end.now.clear.tick
+        (uarts_from 0 ports.now)) }
+{
+    let uarts = uarts_of(alloc, ports)?;
+    ending_of(
+        alloc,
+        uarts.as_slice(),
+        end.master(),
+        end.calls(),
+        end.ticks(),
+    )
+}
+
 /// All that is printed of a run. What takes memory is made here.
 fn finish(alloc: Global, driven: Driven) -> Result<Finished, NoMemory>
     requires few { length driven.config.ports ≤ 16 }
@@ -108,15 +132,7 @@ fn finish(alloc: Global, driven: Driven) -> Result<Finished, NoMemory>
     ensures empty { IfOk result (λ f. f.piece.bytes ≡ []) }
     ensures room { IfOk result (λ f. 512 ≤ f.piece.spare) }
 {
-    let uarts = uarts_of(alloc, driven.config.ports.as_slice())?;
-    let machine = &driven.end;
-    let end = ending_of(
-        alloc,
-        uarts.as_slice(),
-        machine.master(),
-        machine.calls(),
-        machine.ticks(),
-    )?;
+    let end = ending_of_end(alloc, driven.config.ports.as_slice(), &driven.end)?;
     let piece = make_piece(alloc)?;
     Ok(Finished { driven, end, piece })
 }

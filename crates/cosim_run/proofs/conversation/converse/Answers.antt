@@ -3,6 +3,7 @@ use Rattle.std.proofs.lemmas.List.{length-map}
 use Rattle.cos_parts.specs.AnyMasters as masters
 use Rattle.configured_machine.proofs.Sides.{sides-each}
 use Rattle.cosim_ends.specs.Sides.{sides_of}
+use Rattle.cosim_serve.specs.Serves.{NetView}
 use Rattle.end_machine.specs.Driving.{DriveCounts}
 use Rattle.outcomes.specs.Seen.{seen}
 use Rattle.port_children.specs.Opened.{Opens, OpensSoundly}
@@ -67,7 +68,7 @@ pub returns-in-Ok-drive-clause-ok : goal.returns-in-Ok-drive-clause-ok
 returns-in-Ok-drive-clause-ok g c =
     let net = seen g.N.Network.count g.N.Network.told c.args.net.now c.open_links.new.net in
     let children = seen g.S.Spawner.count g.S.Spawner.told c.args.children.now c.open_links.new.children in
-    let view = record { told = g.N.Link.Link.told; count = g.N.Link.Link.count; is_sound = g.N.Network.sound c.args.net.now } in
+    let view : NetView g.row.N-Link.Denot = record { told = g.N.Link.Link.told; count = g.N.Link.Link.count; is_sound = g.N.Network.sound c.args.net.now } in
     let links = c.open_links.new.links.items in
     let numbers = c.open_links.new.numbers.items in
     let opens = subst (λ ports. Opens c.args.program.now c.args.config.now (sockets_of ports) net children links numbers (Ok tt))
@@ -103,7 +104,7 @@ pub returns-in-Err-drive-clause-err : goal.returns-in-Err-drive-clause-err
 returns-in-Err-drive-clause-err g c =
     let net = seen g.N.Network.count g.N.Network.told c.args.net.now c.open_links.new.net in
     let children = seen g.S.Spawner.count g.S.Spawner.told c.args.children.now c.open_links.new.children in
-    let view = record { told = g.N.Link.Link.told; count = g.N.Link.Link.count; is_sound = g.N.Network.sound c.args.net.now } in
+    let view : NetView g.row.N-Link.Denot = record { told = g.N.Link.Link.told; count = g.N.Link.Link.count; is_sound = g.N.Network.sound c.args.net.now } in
     let links = c.open_links.new.links.items in
     let numbers = c.open_links.new.numbers.items in
     let opens = subst (λ ports. Opens c.args.program.now c.args.config.now (sockets_of ports) net children links numbers (Ok tt))
