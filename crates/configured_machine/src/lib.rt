@@ -5,4 +5,3 @@
 mod parts;
 
 pub use parts::{Parts, read_parts};
-

@@ -48,7 +48,15 @@ fn ends(
         Ok(words) => words,
         Err(_) => return Err(NoMemory),
     };
-    let status = cosim(alloc, &words, &mut files, &mut out, &mut err, &mut net, &mut children);
+    let status = cosim(
+        alloc,
+        &words,
+        &mut files,
+        &mut out,
+        &mut err,
+        &mut net,
+        &mut children,
+    );
     Ok(status.code() == code && out.bytes() == text && err.bytes() == line.as_bytes())
 }
 

@@ -186,9 +186,13 @@ module _ {L : Type 0} (program config : List ℕ) (view : NetView L) (p : Parts)
           (Err (turn_fault.Port (record { port = port; fault = x })))
           → IsDrivenOver view.told p links left (Err (turn_fault.Port (record { port = port; fault = x })))
           → Converses view p net children (whole links) left (Err (undriven_at port x))
-      by port (fault.Link n) moved driven =
-          (all, λ l at. rose-at (map view.count links) now port n (view.count l)
-          (map-at view.count links port l at) moved, stands, children_stand)
+      by port (fault.Link n) moved driven = (
+        all,
+        λ l at. rose-at (map view.count links) now port n (view.count l)
+            (map-at view.count links port l at) moved,
+        stands,
+        children_stand,
+      )
       by port fault.NoMemory moved driven = (stands, children_stand)
       by port (fault.Ended n) moved driven = (all, tt, driven, stands, children_stand)
       by port (fault.Truncated a b) moved driven = (all, tt, driven, stands, children_stand)

@@ -123,12 +123,12 @@ abbrev pub PrintsDirectly : {L : Type 0} → (L → Option Wire) → Parts → L
 PrintsDirectly told p links text =
     WhereTold (map told links)
     (λ ws.
-      IsHonest masters.any_model devices.any_model packet_codec (plan_of p.config) p.machine.master
-      (sides_of p.config.ports p.machine.devices.items) (said_on ws)
-      → text
-      ≡ run_lines
-      (direct masters.any_model devices.any_model (plan_of p.config) p.machine.master p.machine.devices.items)
-      p.config.ports)
+    IsHonest masters.any_model devices.any_model packet_codec (plan_of p.config) p.machine.master
+    (sides_of p.config.ports p.machine.devices.items) (said_on ws)
+    → text
+    ≡ run_lines
+    (direct masters.any_model devices.any_model (plan_of p.config) p.machine.master p.machine.devices.items)
+    p.config.ports)
 
 abbrev pub IfDone : RunEnded → Type 0 → Type 0
 IfDone (Ok u) P = P

@@ -51,17 +51,21 @@ fn undriven(fault: TurnFault) -> Stop<RunRefusal>
     ensures { result ≡ undriven fault }
 {
     match fault {
-        TurnFault::Port(PortFault {
-            port,
-            fault: EndFault::Link { count },
-        }) => Stop::Outside {
+        TurnFault::Port(
+            PortFault {
+                port,
+                fault: EndFault::Link { count },
+            },
+        ) => Stop::Outside {
             object: Object::Link { port },
             count,
         },
-        TurnFault::Port(PortFault {
-            port: _,
-            fault: EndFault::NoMemory,
-        }) => Stop::NoMemory,
+        TurnFault::Port(
+            PortFault {
+                port: _,
+                fault: EndFault::NoMemory,
+            },
+        ) => Stop::NoMemory,
         TurnFault::Port(PortFault { port, fault }) => {
             Stop::Refused(RunRefusal::Peer { port, fault })
         }

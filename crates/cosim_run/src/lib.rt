@@ -8,4 +8,3 @@ mod refusal;
 
 pub use command::run;
 pub use refusal::RunRefusal;
-

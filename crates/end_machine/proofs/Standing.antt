@@ -52,9 +52,12 @@ module _ {M : Type 0} (k : MasterModel M) where
   -- a fresh end has taken no turn
   pub fresh-run : (m : M) (n : ℕ) (plan : Plan) (e : End M) → e ≡ fresh (machine_start Cause m n plan) n
       → InRun k (machine_start Cause m n plan) n e
-  fresh-run m n plan e is =
-      (λ p. [], λ p. [], subst (λ (e : End M). HasRun k (machine_start Cause m n plan) n (λ p. []) (λ p. []) e) (sym is)
-      (run-fresh k (machine_start Cause m n plan) n refl))
+  fresh-run m n plan e is = (
+    λ p. [],
+    λ p. [],
+    subst (λ (e : End M). HasRun k (machine_start Cause m n plan) n (λ p. []) (λ p. []) e) (sym is)
+        (run-fresh k (machine_start Cause m n plan) n refl),
+  )
 
   -- and all is done
   pub done-run : (start : MachineEnd M Cause) (n : ℕ) (old new : End M) (t : Turn) → need_of t ≡ need.Nothing

@@ -59,9 +59,27 @@ fn put_endings<K: Sink>(alloc: Global, out: &mut K) -> Result<(), Stopped> {
         ("both end with other statuses", None, None, 3, 4),
         ("the hello of port 0 isn't sent", Some(0), None, 0, 0),
         ("the first read of link 0 fails", Some(1), None, 0, 0),
-        ("the first read of link 0 fails, and child 1 ends with 3", Some(1), None, 0, 3),
-        ("the wait of child 0 fails, and child 1 ends with 3", None, Some(2), 0, 3),
-        ("child 0 ends with 3, and the wait of child 1 fails", None, Some(3), 3, 0),
+        (
+            "the first read of link 0 fails, and child 1 ends with 3",
+            Some(1),
+            None,
+            0,
+            3,
+        ),
+        (
+            "the wait of child 0 fails, and child 1 ends with 3",
+            None,
+            Some(2),
+            0,
+            3,
+        ),
+        (
+            "child 0 ends with 3, and the wait of child 1 fails",
+            None,
+            Some(3),
+            3,
+            0,
+        ),
     ];
     for (name, link, children, first, second) in rows {
         let failing = Row {

@@ -154,6 +154,8 @@ pub fn put_row<K: Sink>(alloc: Global, row: &Row, to: &mut K) -> Result<(), Stop
         return Err(Stopped::Out);
     };
     let line = line.trim_end();
-    let text = format!(in alloc; "{name}: {code}, started {started}, running {running}, printed {printed} {line}\n")?;
+    let text = format!(in alloc;
+        "{name}: {code}, started {started}, running {running}, printed {printed} {line}\n"
+    )?;
     Ok(to.put(text.as_bytes())?)
 }

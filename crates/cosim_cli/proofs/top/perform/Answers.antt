@@ -96,6 +96,7 @@ returns-in-Gen g c =
       net = record { count = refl; same = refl };
       children = record { count = refl; same = refl };
     })
+
 pub returns-in-Run : goal.returns-in-Run
 returns-in-Run g c =
     rw c.in-Run.is (record { result = c.run.result; runs = c.run.ensures; status = c.status_of-in-Run.ensures })

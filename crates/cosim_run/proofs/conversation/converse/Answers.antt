@@ -77,14 +77,14 @@ returns-in-Ok-drive-clause-ok g c =
       settings = refl;
       talks = opened-talks c.args.program.now c.args.config.now view c.args.parts net children numbers links opens
           c.drive.new.end.clear (Ok tt) (
-        all-had c.args.program.now c.args.config.now view c.args.parts net children numbers links opens,
-        driven-over g.N.Link.Link.told c.args.parts links c.as_mut_slice.result.now c.in-Ok.end.clear
-            c.drive.new.end.clear (Ok tt) c.as_mut_slice.ensures.value
-            (started c.args.parts c.in-Ok.end c.len.result c.in-Ok.ensures c.len.ensures) c.in-Ok-drive.ensures.talk
-            c.in-Ok-drive.ensures.honest,
-        opens.net_stands,
-        opens.children_stand,
-      );
+            all-had c.args.program.now c.args.config.now view c.args.parts net children numbers links opens,
+            driven-over g.N.Link.Link.told c.args.parts links c.as_mut_slice.result.now c.in-Ok.end.clear
+                c.drive.new.end.clear (Ok tt) c.as_mut_slice.ensures.value
+                (started c.args.parts c.in-Ok.end c.len.result c.in-Ok.ensures c.len.ensures) c.in-Ok-drive.ensures.talk
+                c.in-Ok-drive.ensures.honest,
+            opens.net_stands,
+            opens.children_stand,
+          );
     }
 
 pub returns-in-Ok-drive-clause-lines : goal.returns-in-Ok-drive-clause-lines

@@ -61,20 +61,47 @@ returns-clause-err c =
     let device = c.is_word.ensures.no c.if-is_word.false in
     let local = c.is_word-7.ensures.no c.if-is_word-7.false in
     faulty-of _ _ (faulty-here forms _ _ _ c.in-Some.ensures
-    (behind-others _ forms
-    (device,
-    (device,
-    (device,
-    (c.is_word-2.ensures.no c.if-is_word-2.false,
-    (c.is_word-3.ensures.no c.if-is_word-3.false,
-    (c.is_word-4.ensures.no c.if-is_word-4.false,
-    (c.is_word-5.ensures.no c.if-is_word-5.false,
-    (c.is_word-6.ensures.no c.if-is_word-6.false,
-    (local,
-    (local,
-    (local,
-    (c.is_word-8.ensures.no c.if-is_word-8.false,
-    (c.is_word-9.ensures.no c.if-is_word-9.false,
-    (c.is_word-10.ensures.no c.if-is_word-10.false,
-    tt)))))))))))))))
+    (behind-others _ forms (
+      device,
+      (
+        device,
+        (
+          device,
+          (
+            c.is_word-2.ensures.no c.if-is_word-2.false,
+            (
+              c.is_word-3.ensures.no c.if-is_word-3.false,
+              (
+                c.is_word-4.ensures.no c.if-is_word-4.false,
+                (
+                  c.is_word-5.ensures.no c.if-is_word-5.false,
+                  (
+                    c.is_word-6.ensures.no c.if-is_word-6.false,
+                    (
+                      local,
+                      (
+                        local,
+                        (
+                          local,
+                          (
+                            c.is_word-8.ensures.no c.if-is_word-8.false,
+                            (
+                              c.is_word-9.ensures.no c.if-is_word-9.false,
+                              (
+                                c.is_word-10.ensures.no c.if-is_word-10.false,
+                                tt,
+                              ),
+                            ),
+                          ),
+                        ),
+                      ),
+                    ),
+                  ),
+                ),
+              ),
+            ),
+          ),
+        ),
+      ),
+    ))
     begins-forms)
