@@ -66,14 +66,7 @@ fn make_config(alloc: Global, quantum: u32, gap: u32) -> Result<Config, NoMemory
     let input = Name::copy_of(alloc, "input")?;
     let mut ports = Ports::make(alloc);
     ports.push(port(alloc, PortKind::Timer, 0x1000_0000, 0, None, 1))?;
-    ports.push(port(
-        alloc,
-        PortKind::Uart,
-        0x1000_1000,
-        1,
-        Some(input),
-        gap,
-    ))?;
+    ports.push(port(alloc, PortKind::Uart, 0x1000_1000, 1, Some(input), gap))?;
     ports.push(port(alloc, PortKind::Dma, 0x1000_2000, 2, None, 1))?;
     Ok(Config {
         kind: MachineKind::Rv,
@@ -120,11 +113,7 @@ fn make_devices(alloc: Global, input: &[u8], gap: u32) -> Result<Vec<AnyDevice>,
 }
 
 /// The machine of these settings whose hart runs the generated image, and whose UART receives the generated input.
-fn make_machine(
-    alloc: Global,
-    config: &Config,
-    generated: &Generated,
-) -> Result<Machine, NoMemory>
+fn make_machine(alloc: Global, config: &Config, generated: &Generated) -> Result<Machine, NoMemory>
     requires limits { IsWithinLimits config.now }
     requires some { 0 < length generated.now.image.bytes }
     requires fits { length generated.now.image.bytes ≤ config.now.ram }

@@ -1,12 +1,13 @@
 -- What driving leaves is by Talk, and over honest links it is what the direct machine leaves.
-use Rattle.std.proofs.Common.{◌≡◌, ℕ, List, [], drop, length, get_or, refl, sym, ap}
+use Rattle.std.proofs.Common.{◌≡◌, ℕ, zero, suc, ◌<◌, List, [], ◌∷◌, ◌++◌, drop, length, get_or, map, refl, sym, ap}
 use Rattle.std.proofs.Common.{◌∙◌, subst, Result, Ok, Err}
 use Rattle.std.specs.Prelude.{Option, Some, None, slice_get}
+use Rattle.std.proofs.lemmas.Option.{none-some, same_Some}
 use Rattle.byte_streams.specs.Prefixes.{IsPrefix}
 use Rattle.byte_streams.proofs.Prefixes.{Grows-IsPrefix, IsPrefix-same}
 use Rattle.process_network.specs.Network.{Below, Streams}
 use Rattle.process_network.specs.PacketStar.{HubOutlook, hub_after_take, hub_turn_by}
-use Rattle.process_network.specs.PacketStar.HubOutlook.{HubWaits, HubHalts}
+use Rattle.process_network.specs.PacketStar.HubOutlook.{HubActs, HubWaits, HubHalts}
 use Rattle.process_network.specs.TellingLinks.{IsTelling}
 use Rattle.cos_base.specs.Links.{Wire, IsWire}
 use Rattle.cosim_model.specs.declared.session.EndFault.{EndFault}
@@ -27,7 +28,7 @@ use Rattle.machine_turns.specs.Runs.{Rests, Taking, machine_alone}
 use Rattle.end_machine.specs.Wires.{Said, received_of, received_on, said_of, said_on, sent_of, sent_on}
 use Rattle.end_machine.specs.Talk.{ByTalk, EndsSo, FailsSo, TalkEnds}
 use Rattle.end_machine.specs.Driving.{IsAllRead, IsDriven, Leaves, Tells}
-use Rattle.end_machine.proofs.TalkLaws.{settles}
+use Rattle.end_machine.proofs.TalkLaws.{Settled, settles}
 use Rattle.end_machine.proofs.WireLaws.{tell-size, tell-some}
 
 -- More bytes of a port that isn't awaited change nothing, and neither do any behind a refusal or at the end.

@@ -1,14 +1,15 @@
 -- How far the links and the end have come, from call to call of drive.
-use Rattle.std.proofs.Common.{◌≡◌, ℕ, ◌<◌, List, [], ◌++◌, length, drop, get_or, map, set, refl, sym, ap, ◌∙◌}
+use Rattle.std.proofs.Common.{◌≡◌, ℕ, ◌<◌, ◌≤◌, List, [], ◌++◌, length, drop, get_or, map, set, refl, sym, ap, ◌∙◌}
 use Rattle.std.proofs.Common.{subst, arith, Result, Ok, Err}
 use Rattle.std.specs.Prelude.{Option, Some, None, IfSome, option_map, slice_get}
 use Rattle.std.proofs.lemmas.List.{append-nil, length-map, length-set}
 use Rattle.std.proofs.lemmas.Option.{none-some, same_Some}
 use Rattle.byte_streams.specs.Prefixes.{IsPrefix}
-use Rattle.byte_streams.proofs.Prefixes.{IsPrefix-same, IsPrefix-trans}
+use Rattle.byte_streams.proofs.Prefixes.{IsPrefix-front, IsPrefix-same, IsPrefix-trans, Grows-IsPrefix}
 use Rattle.process_network.specs.Network.{Streams}
 use Rattle.process_network.specs.PacketStar.HubOutlook.{HubWaits}
-use Rattle.cos_base.specs.Links.{Wire, IsWire}
+use Rattle.process_network.specs.TellingLinks.{IsFixed, IsTelling}
+use Rattle.cos_base.specs.Links.{Wire, IsWire, IsFresh}
 use Rattle.cosim_model.specs.declared.session.EndFault.{EndFault}
 use Rattle.cosim_model.specs.declared.session.EndFault.TheVariants as fault
 use Rattle.cosim_model.specs.declared.values.Plan.{Plan}
@@ -18,6 +19,7 @@ use Rattle.ends_model.specs.declared.ends.Turn.{Turn}
 use Rattle.ends_model.specs.declared.ends.Turn.TheVariants as turn
 use Rattle.ends_model.specs.MachineTurn.{MachineEnd, machine_outlook}
 use Rattle.ends_model.specs.World.{machine_start}
+use Rattle.rp_framing.specs.Framing.{counted}
 use Rattle.rp_framing.specs.Receiving.{Came, CameAll, CamePartly}
 use Rattle.rp_framing.specs.declared.receiver.Pulled.{Pulled}
 use Rattle.rp_framing.specs.declared.receiver.Pulled.TheVariants as pulled
@@ -28,14 +30,14 @@ use Rattle.rp_packet.specs.declared.fault.PacketFault.{PacketFault}
 use Rattle.machine_turns.specs.declared.fault.PortFault.{PortFault}
 use Rattle.machine_turns.specs.declared.fault.TurnFault.{TurnFault}
 use Rattle.machine_turns.specs.declared.fault.TurnFault.TheVariants as turn_fault
-use Rattle.machine_turns.specs.Runs.{Grown, IsRun, Taking, only_at}
+use Rattle.machine_turns.specs.Runs.{Grown, IsRun, Rests, Taking, only_at}
 use Rattle.machine_turns.specs.RunLaws.{fed-runs}
 use Rattle.machine_turns.specs.Ends.{Advances, End, GoesOn, HasRun, IsAtFront, IsAtRest, IsBlamedAt, IsPlacedAt}
 use Rattle.machine_turns.specs.Ends.{Pulls, RunsOn, Sends, SendsAll, core_of, held_at, port_cause, taken_at}
 use Rattle.end_machine.specs.Wires.{AllTell, Said, received_of, received_on, said_of, said_on, sent_of, sent_on}
-use Rattle.end_machine.specs.Talk.{EndsSo, HasParts, IfLink}
+use Rattle.end_machine.specs.Talk.{EndsSo, FailsSo, HasParts, IfLink}
 use Rattle.end_machine.specs.Driving.{IsAllRead, IsDriven, IsInTime, IsPartly, Leaves, Tells}
-use Rattle.end_machine.specs.Going.{FinishesBy, Going, IsAtEnd, IsGoing, OnlyLink, ReadsOn, SendsOn, port_of}
+use Rattle.end_machine.specs.Going.{AreSent, FinishesBy, Going, IsAtEnd, IsGoing, OnlyLink, ReadsOn, SendsOn, port_of}
 use Rattle.end_machine.specs.Going.{with_sent}
 use Rattle.end_machine.proofs.TalkLaws.{sends-less}
 use Rattle.end_machine.proofs.LinkLaws.{told-set, told-there}

@@ -1,5 +1,5 @@
 -- Over honest links driving ends as the direct machine does.
-use Rattle.std.proofs.Common.{◌≡◌, ℕ, zero, suc, List, drop, length, get_or, map, refl, sym, ap, ◌∙◌, subst}
+use Rattle.std.proofs.Common.{◌≡◌, ℕ, zero, suc, List, ◌++◌, drop, length, get_or, map, refl, sym, ap, ◌∙◌, subst}
 use Rattle.std.proofs.Common.{Result, Ok, Err}
 use Rattle.std.specs.Prelude.{Option, Some, None, IfSome, slice_get}
 use Rattle.std.proofs.lemmas.Option.{none-some}
@@ -14,6 +14,7 @@ use Rattle.cosim_model.specs.declared.session.EndFault.TheVariants as fault
 use Rattle.cosim_model.specs.declared.values.Plan.{Plan}
 use Rattle.cosim_model.specs.Packets.{Decoded}
 use Rattle.cosim_model.specs.Parts.{DeviceModel, IsDevice, IsMaster, MasterModel}
+use Rattle.ends_model.specs.declared.ends.Phase.TheVariants.{Done}
 use Rattle.ends_model.specs.MachineTurn.{MachineEnd, machine_outlook}
 use Rattle.ends_model.specs.World.{Fit, Side, ends as both, machine_start}
 use Rattle.every_schedule.specs.Schedules.{IsDriven as IsDone, IsHonest, back_at}
@@ -24,7 +25,7 @@ use Rattle.rp_packet.specs.CodecLaws.{codec-laws}
 use Rattle.rp_packet.specs.Streams.{packet_codec}
 use Rattle.machine_turns.specs.declared.fault.TurnFault.{TurnFault}
 use Rattle.machine_turns.specs.declared.fault.TurnFault.TheVariants as turn_fault
-use Rattle.machine_turns.specs.Runs.{IsRun, Taking, machine_alone}
+use Rattle.machine_turns.specs.Runs.{IsRun, Rests, Taking, machine_alone}
 use Rattle.end_machine.specs.Wires.{AllTell, Said, said_on}
 use Rattle.end_machine.specs.Talk.{ByTalk, EndsSo, FailsSo, TalkEnds}
 use Rattle.end_machine.specs.Driving.{EndsDirectly, Leaves}

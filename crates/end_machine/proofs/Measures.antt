@@ -1,9 +1,10 @@
 -- A machine end takes a bounded number of turns: what is left to do falls with each.
-use Rattle.std.proofs.Common.{◌≡◌, ℕ, zero, suc, ◌<◌, List, Option, Some, None, refl, sym, subst}
+use Rattle.std.proofs.Common.{◌≡◌, ℕ, zero, suc, ◌<◌, List, [], Option, Some, None, refl, sym, ap, subst}
 use Rattle.std.proofs.lemmas.Option.{same_Some, none-some}
 use Rattle.process_network.specs.Network.{Streams}
-use Rattle.process_network.specs.PacketStar.{HubOutlook, hub_turn_by, hub_after_take}
+use Rattle.process_network.specs.PacketStar.{HubEnd, HubOutlook, star_of, fresh_hub, hub_turn_by, hub_after_take}
 use Rattle.process_network.specs.PacketStar.HubOutlook.{HubActs, HubWaits, HubHalts}
+use Rattle.process_network.specs.StarTalk.{IsHubRun}
 use Rattle.process_network.specs.TellingLinks.{HubWorkBounded}
 use Rattle.cosim_model.specs.declared.values.Plan.{Plan}
 use Rattle.cosim_model.specs.Values.{no_caps}

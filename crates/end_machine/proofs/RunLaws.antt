@@ -1,6 +1,6 @@
 -- The loop of drive: how it begins, what each turn and each read keep, and how it ends.
-use Rattle.std.proofs.Common.{◌≡◌, ℕ, zero, suc, ◌<◌, List, [], ◌∷◌, length, get_or, map, refl, sym}
-use Rattle.std.proofs.Common.{ap, ◌∙◌, subst, arith, Result, Ok, Err}
+use Rattle.std.proofs.Common.{◌≡◌, ℕ, zero, suc, ◌<◌, ◌≤◌, List, [], ◌∷◌, length, get_or, map, replicate, refl, sym}
+use Rattle.std.proofs.Common.{ap, ◌∙◌, subst, arith, All, Result, Ok, Err}
 use Rattle.std.specs.Prelude.{Option, Some, None, IfSome, slice_get}
 use Rattle.std.proofs.lemmas.List.{length-map, length-replicate}
 use Rattle.std.proofs.lemmas.Option.{none-some, same_Some}
@@ -21,14 +21,15 @@ use Rattle.machine_turns.specs.declared.fault.TurnFault.{TurnFault}
 use Rattle.machine_turns.specs.declared.fault.TurnFault.TheVariants as turn_fault
 use Rattle.machine_turns.specs.RunLaws.{run-fresh}
 use Rattle.machine_turns.specs.Ends.{End, HasRun, IsAtRest, IsWaiting, SendsAll, core_of, fresh}
+use Rattle.end_machine.specs.declared.driving.Need.{Need}
 use Rattle.end_machine.specs.declared.driving.Need.TheVariants as need
 use Rattle.end_machine.specs.Wires.{AllTell, Said, received_of, received_on, said_on, sent_of, sent_on}
-use Rattle.end_machine.specs.Driving.{DriveCounts, Leaves}
-use Rattle.end_machine.specs.Going.{Fed, FinishesBy, Going, ReadsOn, Settles, Turned, need_of}
+use Rattle.end_machine.specs.Driving.{DriveCounts, Leaves, Tells}
+use Rattle.end_machine.specs.Going.{Fed, FinishesBy, Going, IsAtEnd, IsGoing, ReadsOn, Settles, Turned, need_of}
 use Rattle.end_machine.proofs.Measures.{Holds, start-holds, waits-there}
 use Rattle.end_machine.proofs.WireLaws.{tell-size, tell-some}
 use Rattle.end_machine.proofs.GoingLaws.{done-leaves, finished, run-as}
-use Rattle.end_machine.proofs.StepLaws.{need-stops, need-waits, read-less, remaining, step-stops}
+use Rattle.end_machine.proofs.StepLaws.{need-stops, need-waits, read-less, remaining, step-moves, step-stops}
 use Rattle.end_machine.proofs.StepLaws.{step-waits, waits-outlook, worked-less}
 use Rattle.end_machine.proofs.DriveLaws.{telling-on}
 

@@ -2,7 +2,7 @@
 -- Talk ends.
 use Rattle.std.proofs.Common.{◌≡◌, ℕ, zero, suc, List, [], Option, Some, None, refl, sym, ap, ◌∙◌, subst}
 use Rattle.std.proofs.lemmas.Option.{same_Some, none-some}
-use Rattle.process_network.specs.Network.{Below, IsMonotone, IsPrefix, Streams}
+use Rattle.process_network.specs.Network.{Below, IsMonotone, IsPrefix, IsRun as IsNodeRun, IsMaximalRun, Streams}
 use Rattle.process_network.specs.PacketStar.{LeafEnd, fresh_hub, star_of}
 use Rattle.process_network.specs.Star.{IsStarMonotone, Star, to_leaf}
 use Rattle.process_network.specs.StarTalk.{StarTalk}

@@ -1,10 +1,10 @@
 -- Links by port, where one of them is changed.
 use Rattle.std.proofs.Common.{◌≡◌, ℕ, zero, suc, ◌<◌, Bool, true, false, List, [], ◌∷◌, ◌++◌, length, map, set, refl}
 use Rattle.std.proofs.Common.{sym, ap, ◌∙◌, subst, arith}
-use Rattle.std.specs.Prelude.{Option, Some, nat_eq, if◌then◌else◌, slice_get}
+use Rattle.std.specs.Prelude.{Option, Some, None, nat_eq, if◌then◌else◌, slice_get}
 use Rattle.std.proofs.lemmas.Bool.Decides.{nat_tests}
-use Rattle.std.proofs.lemmas.List.{append-nil, length-map, map-set}
-use Rattle.std.proofs.lemmas.Option.{none-some, same_Some}
+use Rattle.std.proofs.lemmas.List.{append-nil, length-map, length-set, map-set}
+use Rattle.std.proofs.lemmas.Option.{none-some, same_Some, slice_get-map}
 use Rattle.cos_base.specs.Links.{Wire}
 use Rattle.machine_turns.specs.Runs.{Grown, only_at}
 use Rattle.end_machine.specs.Wires.{AllTell, received_of, received_on, said_of, said_on, sent_of, sent_on}

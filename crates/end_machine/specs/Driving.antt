@@ -1,6 +1,6 @@
 -- What driving a machine end over its links leaves: what was sent for what was received, how the counts of faults
 -- moved, whom a fault blames, which fault is kept, and how it ends over honest links.
-use Rattle.std.specs.Prelude.{◌≡◌, ℕ, ◌<◌, Bool, true, false, nat_eq, List, length, get_or, Option, Some, None}
+use Rattle.std.specs.Prelude.{◌≡◌, ℕ, ◌<◌, Bool, true, false, nat_eq, List, length, get_or, map, Option, Some, None}
 use Rattle.std.specs.Prelude.{option_map, Result, Ok, Err, slice_get}
 use Rattle.byte_streams.specs.Prefixes.{IsPrefix}
 use Rattle.process_network.specs.Network.{Streams}

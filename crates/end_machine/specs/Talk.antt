@@ -1,5 +1,5 @@
 -- How a machine end ends over received bytes, and how its talk with its links ends.
-use Rattle.std.specs.Prelude.{◌≡◌, ℕ, ◌≤◌, List, [], length, drop, get_or, Some, None, Result, Ok, Err}
+use Rattle.std.specs.Prelude.{◌≡◌, ℕ, ◌≤◌, List, [], length, drop, get_or, Option, Some, None, Result, Ok, Err}
 use Rattle.process_network.specs.Network.{Streams}
 use Rattle.process_network.specs.PacketStar.{fresh_hub, star_of}
 use Rattle.process_network.specs.PacketStar.HubOutlook.{HubWaits}

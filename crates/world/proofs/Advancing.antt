@@ -1,18 +1,18 @@
 -- Local units of the machine end, and then its turn, are steps of the star.
-use Rattle.std.proofs.Common.{◌≡◌, ℕ, zero, suc, ◌+◌, ◌≤◌, false, List, [], ◌∷◌, length, map, refl, sym, ap, ◌∙◌, subst, Ok, Err}
-use Rattle.std.specs.Prelude.{None}
+use Rattle.std.proofs.Common.{◌≡◌, ℕ, zero, suc, ◌+◌, ◌≤◌, Bool, true, false, List, [], ◌∷◌, ◌++◌, length, map, refl, sym, ap, ◌∙◌, subst, Result, Ok, Err}
+use Rattle.std.specs.Prelude.{Option, Some, None}
 use Rattle.cos_base.specs.declared.no_memory.NoMemory.{NoMemory}
-use Rattle.process_network.specs.Star.{Link, StarStep, star_all}
+use Rattle.process_network.specs.Star.{Link, StarStep, star_after, star_all}
 use Rattle.process_network.specs.Star.StarStep.{HubTurn}
 use Rattle.cosim_model.specs.Parts.{DeviceModel, MasterModel}
 use Rattle.ends_model.specs.declared.ends.Turn.{Turn}
 use Rattle.ends_model.specs.declared.ends.Turn.TheVariants as turn
 use Rattle.machine_turns.specs.declared.fault.PortFault.{PortFault}
 use Rattle.machine_turns.specs.declared.fault.TurnFault.TheVariants as turn_fault
-use Rattle.machine_turns.specs.Ends.{Advances as MachineAdvances, End, HasWorked as MachineWorked, IsAtFront}
+use Rattle.machine_turns.specs.Ends.{Advances as MachineAdvances, End, HasWorked as MachineWorked, IsAtFront, IsTurn, port_cause}
 use Rattle.machine_turns.proofs.Advancing.{front-same, unit-runs}
 use Rattle.world.specs.Seats.{SeatValue, leaf_of}
-use Rattle.world.specs.Stars.{Advances, Ends, HasWorked, IsHub, IsSendable, StaysSound, ends_of, is_sending, sent_links, star}
+use Rattle.world.specs.Stars.{Advances, Ends, HasWorked, IsHub, IsSendable, IsTaken, IsUnit, StaysSound, ends_of, is_sending, sent_links, star}
 use Rattle.world.proofs.Turning.{has-room-for, hub-kept, hub-moves, never-faulty, turn-keeps, turn-moves}
 
 silent-links : (t : Turn) (links : List Link) (bytes : List ℕ) → is_sending t ≡ false → sent_links links t bytes ≡ links

@@ -1,9 +1,9 @@
 -- The ends at the start.
 use Rattle.std.proofs.Common.{◌≡◌, ℕ, zero, suc, List, [], ◌∷◌, length, get_or, map, replicate, refl, sym, ap, ◌∙◌, subst, arith}
-use Rattle.std.specs.Prelude.{All}
+use Rattle.std.specs.Prelude.{All, None}
 use Rattle.std.proofs.lemmas.List.{length-map, length-replicate}
 use Rattle.process_network.specs.PacketStar.{fresh_leaf}
-use Rattle.process_network.specs.Star.{new_link}
+use Rattle.process_network.specs.Star.{Link, new_link}
 use Rattle.device_turns.specs.Ends.{End as DeviceTurns, core_of as device_core}
 use Rattle.machine_turns.specs.Ends.{End, Received, core_of, fresh as fresh_machine}
 use Rattle.world.specs.Seats.{IsFresh, SeatValue, leaf_of}

@@ -1,14 +1,14 @@
 -- A schedule brings a world to one end.
 use Rattle.std.proofs.Common.{◌≡◌, ◌⊎◌, inl, inr, ℕ, ◌+◌, List, [], ◌∷◌, ◌++◌, length, map, refl, sym, ap, ◌∙◌, subst, append_assoc}
 use Rattle.std.proofs.lemmas.List.{append-nil}
-use Rattle.process_network.specs.Star.{star_effective_steps}
+use Rattle.process_network.specs.Star.{star_all, star_effective_steps}
 use Rattle.cosim_model.specs.Parts.{DeviceModel, MasterModel}
 use Rattle.ends_model.specs.declared.ends.Phase.TheVariants.{Done}
 use Rattle.cos_schedules.specs.declared.schedule.Schedule.{Schedule}
 use Rattle.cos_schedules.specs.declared.schedule.Schedule.TheVariants.{Number, Listed}
 use Rattle.cos_schedules.specs.declared.step.Step.{Step}
 use Rattle.cos_schedules.specs.Beginnings.{BeginsWith, ListBegins, RoundsBegin}
-use Rattle.cos_schedules.specs.Courses.{Course, GivesAll}
+use Rattle.cos_schedules.specs.Courses.{Course, Gives, GivesAll, begun}
 use Rattle.cos_schedules.specs.Stars.{star_step}
 use Rattle.rp_framing.specs.Framing.{counted}
 use Rattle.world.specs.Stars.{star}

@@ -1,6 +1,6 @@
 -- A quiet world: which steps change nothing there, and which leave it quiet.
-use Rattle.std.proofs.Common.{◌≡◌, ⊎_elim, ℕ, zero, suc, ◌+◌, ◌-◌, ◌<◌, ◌≤◌, min, Bool, true, false, List, [], ◌∷◌, ◌++◌, length, map, get_or, refl, sym, ap, ap₂, ◌∙◌, subst, arith, ltb-false}
-use Rattle.std.specs.Prelude.{◌||◌, if◌then◌else◌, nat_lt, is_some, Option, Result, Ok, Err}
+use Rattle.std.proofs.Common.{◌≡◌, ◌⊎◌, inl, inr, ⊎_elim, ℕ, zero, suc, ◌+◌, ◌-◌, ◌<◌, ◌≤◌, min, Bool, true, false, List, [], ◌∷◌, ◌++◌, length, map, get_or, slice_get, refl, sym, ap, ap₂, ◌∙◌, subst, arith, ltb-false}
+use Rattle.std.specs.Prelude.{◌||◌, if◌then◌else◌, nat_lt, is_some, Option, Some, None, Result, Ok, Err}
 use Rattle.std.proofs.lemmas.List.{get_or_past}
 use Rattle.std.proofs.lemmas.Option.{slice_get_past}
 use Rattle.cos_base.specs.declared.no_memory.NoMemory.{NoMemory}
@@ -25,7 +25,7 @@ use Rattle.cos_schedules.specs.declared.step.Way.TheVariants.{Out, Back}
 use Rattle.cos_schedules.specs.Courses.{AreOthers, Course, Gives, GivesAll, PassesTo, PassesTurns, is_machine}
 use Rattle.cos_schedules.specs.Stars.{star_step}
 use Rattle.cos_schedules.proofs.Passing.{gives-both}
-use Rattle.world.specs.Stars.{Advances, Ends, HasWorked, Hub, IsQuiet, Leaf, StaysSound, is_busy, is_move, is_sending, star}
+use Rattle.world.specs.Stars.{Advances, Ends, HasWorked, Hub, IsQuiet, IsTaken, IsUnit, Leaf, StaysSound, is_busy, is_move, is_sending, star}
 use Rattle.world.specs.Worlds.{HasTaken, IsReached, IsStepped, TakesNext, WorldValue, after_steps, begun}
 use Rattle.world.proofs.Reaching.{reached-sound, steps-append}
 use Rattle.world.proofs.Taking.{no-end, take-both, take-none, take-one}

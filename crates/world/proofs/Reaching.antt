@@ -1,5 +1,5 @@
 -- What holds of the ends of a world wherever some steps led.
-use Rattle.std.proofs.Common.{◌≡◌, ◌⊎◌, ℕ, zero, suc, ◌+◌, ◌≤◌, Bool, true, List, [], ◌∷◌, ◌++◌, length, map, set, refl, sym, ap, ◌∙◌, subst, arith}
+use Rattle.std.proofs.Common.{◌≡◌, ◌⊎◌, ℕ, zero, suc, ◌+◌, ◌<◌, ◌≤◌, Bool, true, false, List, [], ◌∷◌, ◌++◌, length, map, set, refl, sym, ap, ◌∙◌, subst, arith}
 use Rattle.std.specs.Prelude.{All, Option, Some, None, IsSome, if◌then◌else◌, slice_get}
 use Rattle.std.proofs.lemmas.List.{length-map, length-replicate}
 use Rattle.std.proofs.lemmas.Option.{none-some}
@@ -16,6 +16,7 @@ use Rattle.process_network.proofs.StarTheorem.{all_kept}
 use Rattle.cosim_model.specs.declared.values.Plan.{Plan}
 use Rattle.cosim_model.specs.Parts.{DeviceModel, IsDevice, IsMaster, MasterModel}
 use Rattle.ends_model.specs.declared.ends.Phase.TheVariants.{Done}
+use Rattle.ends_model.specs.DeviceTurn.{DeviceEnd}
 use Rattle.ends_model.specs.Answers.{machine_answer}
 use Rattle.ends_model.specs.World.{Fit, Side, device_start, device_starts, ends, machine_start}
 use Rattle.every_schedule.specs.Schedules as all
@@ -28,10 +29,10 @@ use Rattle.rp_packet.specs.CodecLaws.{codec-laws}
 use Rattle.rp_packet.specs.declared.fault.Cause.{Cause}
 use Rattle.rp_packet.specs.Streams.{packet_codec}
 use Rattle.device_turns.specs.Ends.{End as DeviceTurns, core_of as device_core}
-use Rattle.machine_turns.specs.Ends.{End, fresh as fresh_machine}
+use Rattle.machine_turns.specs.Ends.{End, core_of, fresh as fresh_machine}
 use Rattle.world.specs.Seats.{IsFresh}
 use Rattle.world.specs.Stars.{Ends, HasAnswer, Hub, IsMoved, IsSound, Leaf, star, unsent}
-use Rattle.world.specs.Worlds.{IsOnItsWay, IsOver, IsReached, IsStart, IsStepped, Start, WorldValue}
+use Rattle.world.specs.Worlds.{HasRoom, IsOnItsWay, IsOver, IsReached, IsStart, IsStepped, Start, WorldValue}
 use Rattle.world.specs.Worlds.{after_steps, begun, fresh_world, side_of}
 
 -- a place of a list that is as long as another one is a place of that one

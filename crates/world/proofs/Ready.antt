@@ -1,8 +1,8 @@
 -- Whether an end can move, by what its turn would answer.
-use Rattle.std.proofs.Common.{◌≡◌, ℕ, Bool, true, false, List, [], ◌∷◌, length, drop, map, refl, sym, ap, ◌∙◌, subst}
+use Rattle.std.proofs.Common.{◌≡◌, ℕ, Bool, true, false, List, [], ◌∷◌, length, drop, get_or, map, refl, sym, ap, ◌∙◌, subst, Result, Ok, Err}
 use Rattle.std.specs.Prelude.{Option, Some, None, IsSome, is_some, option_map, slice_get}
 use Rattle.process_network.specs.PacketStar.{fresh_hub, fresh_leaf, hub_after_take, leaf_after_take}
-use Rattle.process_network.specs.Star.{Link, star_effective}
+use Rattle.process_network.specs.Star.{Link, hub_received, star_effective}
 use Rattle.process_network.specs.Star.StarStep.{HubTurn}
 use Rattle.cosim_model.specs.declared.session.EndFault.{EndFault}
 use Rattle.cosim_model.specs.declared.values.Bus.{Bus}
@@ -26,6 +26,7 @@ use Rattle.rp_packet.specs.declared.fault.Cause.{Cause}
 use Rattle.rp_packet.specs.Refusals.{first}
 use Rattle.rp_packet.specs.Streams.{packet_codec}
 use Rattle.device_turns.specs.Ends.{End as DeviceTurns, answer_of as device_answer_of, core_of as device_core, kept_cause, moves as device_moves, turn_of as device_turn_of}
+use Rattle.machine_turns.specs.declared.fault.PortFault.{PortFault}
 use Rattle.machine_turns.specs.Ends.{End, answer_of, core_of, held_at, moves, port_cause, turn_of}
 use Rattle.machine_turns.specs.Runs.{machine_alone}
 use Rattle.machine_turns.specs.StepLaws.{After, turned, zeros}

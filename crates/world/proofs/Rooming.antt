@@ -4,6 +4,7 @@ use Rattle.std.proofs.lemmas.Bool.{cases_eq}
 use Rattle.std.proofs.lemmas.List.{get_or-map, length-set, get_or-set_same, get_or-set_other, map-set}
 use Rattle.std.proofs.Math.Seq.{map-set_same}
 use Rattle.process_network.specs.Star.{Link, new_link}
+use Rattle.device_turns.specs.Ends.{End}
 use Rattle.world.specs.Seats.{SeatValue, leaf_of}
 use Rattle.world.specs.Stars.{HaveRoom}
 

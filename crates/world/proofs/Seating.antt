@@ -1,8 +1,9 @@
 -- A turn of a seat's end, and bytes that are delivered to it.
-use Rattle.std.proofs.Common.{◌≡◌, ℕ, ◌+◌, ◌≤◌, Bool, true, false, List, [], ◌∷◌, ◌++◌, length, take, drop, refl, sym, ap, ◌∙◌, subst, arith, Ok, Err, length-append, length-take}
-use Rattle.std.specs.Prelude.{Option, Some, None, is_some}
+use Rattle.std.proofs.Common.{◌≡◌, ℕ, ◌+◌, ◌-◌, ◌≤◌, min, Bool, true, false, List, [], ◌∷◌, ◌++◌, length, take, drop, refl, sym, ap, ◌∙◌, subst, arith, Result, Ok, Err, length-append, length-take, length-drop}
+use Rattle.std.specs.Prelude.{Option, Some, None, is_some, nat_lt}
 use Rattle.std.proofs.Math.Seq.{take-add}
-use Rattle.std.proofs.lemmas.List.{drop-append-le, drop-drop}
+use Rattle.std.proofs.lemmas.List.{append-nil, drop-append-le, drop-drop}
+use Rattle.process_network.specs.Network.{handed_over}
 use Rattle.process_network.specs.PacketStar.{written, leaf_turn_by, leaf_after_take, fresh_leaf}
 use Rattle.process_network.specs.Star.{Link}
 use Rattle.cosim_model.specs.declared.session.EndFault.{EndFault}
@@ -23,7 +24,7 @@ use Rattle.device_turns.specs.Runs.{Taking}
 use Rattle.device_turns.specs.Ends.{AtFault, End, Fault, FedAt, Feeds, Goes, IsTurn, core_of, kept_cause, moves, turn_of}
 use Rattle.device_turns.specs.EndLaws.{answer, moves-turns, waits-rests}
 use Rattle.device_turns.specs.StepLaws.{step-is}
-use Rattle.world.specs.Seats.{IsSeat, IsSoundSeat, SeatTurns, SeatValue, TurnsTo, leaf_of, seat_turn}
+use Rattle.world.specs.Seats.{IsSeat, IsSoundSeat, SeatGiven, SeatTurns, SeatValue, TurnsTo, leaf_of, out_given, seat_turn}
 
 abbrev pub shifted : {S : Type 0} → ℕ → Option (Taking S × List ℕ) → Option (Taking S × List ℕ)
 shifted n None = None

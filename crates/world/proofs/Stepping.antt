@@ -1,14 +1,14 @@
 -- A step of one seat is a step of the star.
-use Rattle.std.proofs.Common.{◌≡◌, ℕ, zero, suc, ◌+◌, ◌<◌, ◌≤◌, min, Bool, false, List, [], ◌∷◌, ◌++◌, length, take, drop, get_or, map, set, refl, sym, ap, ◌∙◌, subst, arith, length-append}
+use Rattle.std.proofs.Common.{◌≡◌, ℕ, zero, suc, ◌+◌, ◌-◌, ◌<◌, ◌≤◌, min, Bool, true, false, List, [], ◌∷◌, ◌++◌, length, take, drop, get_or, map, set, refl, sym, ap, ◌∙◌, subst, arith, length-append, length-take, length-drop}
 use Rattle.std.specs.Prelude.{Option, Some, None, is_some, nat_lt, option_map, slice_get}
 use Rattle.std.proofs.lemmas.Bool.Decides.{nat_tests}
-use Rattle.std.proofs.Math.Seq.{map-set_same}
-use Rattle.std.proofs.lemmas.List.{get_or-map, length-map, length-set, map-set, set-get_or, take-append-le}
-use Rattle.std.proofs.lemmas.Option.{slice_get-map, slice_get_read}
+use Rattle.std.proofs.Math.Seq.{map-set_same, take-add}
+use Rattle.std.proofs.lemmas.List.{drop-append-le, get_or-map, length-map, length-set, map-set, set-get_or, take-append-le}
+use Rattle.std.proofs.lemmas.Option.{slice_get-get_or, slice_get-map, slice_get_read}
 use Rattle.process_network.specs.Network.{handed_over}
 use Rattle.process_network.specs.PacketStar.{LeafOutlook, leaf_after_take, leaf_turn_by}
 use Rattle.process_network.specs.PacketStar.LeafOutlook.{LeafActs, LeafWaits, LeafHalts}
-use Rattle.process_network.specs.Star.{Link, after_leaf_turn, leaf_received, leaf_turn_of, link, new_link}
+use Rattle.process_network.specs.Star.{Link, after_leaf_turn, leaf_received, leaf_turn_of, link, new_link, star_after, star_effective}
 use Rattle.process_network.specs.Star.StarStep.{LeafTurn, DeliverOut, DeliverBack}
 use Rattle.cosim_model.specs.Packets.{Decoded}
 use Rattle.cosim_model.specs.Parts.{DeviceModel, MasterModel}
@@ -17,9 +17,10 @@ use Rattle.ends_model.specs.Traffic as traffic
 use Rattle.ends_model.specs.World.{ends}
 use Rattle.rp_packet.specs.declared.fault.Cause.{Cause}
 use Rattle.rp_packet.specs.Streams.{packet_codec}
-use Rattle.machine_turns.specs.Ends.{End, Received}
-use Rattle.world.specs.Seats.{SeatGiven, SeatTurns, SeatValue, IsSoundSeat, TurnsTo, leaf_of, out_given, seat_turn}
-use Rattle.world.specs.Stars.{Ends, IsHeard, IsHub, IsMoved, IsSound, Leaf, ends_of, hub_of, nothing_received, star}
+use Rattle.machine_turns.specs.declared.fault.PortFault.{PortFault}
+use Rattle.machine_turns.specs.Ends.{End, Received, core_of, fed_at, more, put}
+use Rattle.world.specs.Seats.{SeatGiven, SeatTurns, SeatValue, IsSoundSeat, TurnsTo, back_given, leaf_of, out_given, seat_turn}
+use Rattle.world.specs.Stars.{Ends, Hub, IsHeard, IsHub, IsMoved, IsSound, Leaf, ends_of, hub_of, nothing_received, star}
 
 -- A place behind the end of a list.
 

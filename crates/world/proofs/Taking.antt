@@ -1,7 +1,7 @@
 -- Steps that a world took, one after another.
-use Rattle.std.proofs.Common.{◌≡◌, ◌⊎◌, inl, inr, ℕ, ◌+◌, List, [], ◌∷◌, ◌++◌, length, map, refl, sym, ap, ◌∙◌, subst, arith, if◌then◌else◌, Bool, Ok}
+use Rattle.std.proofs.Common.{◌≡◌, ◌⊎◌, inl, inr, ℕ, zero, suc, ◌+◌, List, [], ◌∷◌, ◌++◌, length, map, refl, sym, ap, ◌∙◌, subst, arith, append_assoc, if◌then◌else◌, Bool, Ok}
 use Rattle.std.proofs.lemmas.List.{append-nil, map-append}
-use Rattle.process_network.specs.Star.{star_all, star_effective_steps}
+use Rattle.process_network.specs.Star.{StarStep, star_all, star_effective_steps}
 use Rattle.process_network.proofs.CalmRuns.{all_append}
 use Rattle.cosim_model.specs.Parts.{DeviceModel, MasterModel}
 use Rattle.ends_model.specs.declared.ends.Phase.TheVariants.{Done}

@@ -1,14 +1,16 @@
 -- A turn of the machine end is a step of the star.
-use Rattle.std.proofs.Common.{◌≡◌, ℕ, zero, suc, ◌+◌, ◌<◌, ◌≤◌, Bool, true, false, List, [], ◌∷◌, ◌++◌, length, take, drop, get_or, map, set, replicate, refl, sym, ap, ◌∙◌, subst, arith, Ok, Err, length-take}
+use Rattle.std.proofs.Common.{◌≡◌, ℕ, zero, suc, ◌+◌, ◌<◌, ◌≤◌, min, Bool, true, false, List, [], ◌∷◌, ◌++◌, length, take, drop, get_or, map, set, replicate, refl, sym, ap, ◌∙◌, subst, arith, Result, Ok, Err, length-take}
 use Rattle.std.specs.Prelude.{Option, Some, None, is_some, option_map, slice_get}
 use Rattle.std.proofs.lemmas.List.{drop-drop, length-map}
 use Rattle.std.proofs.Math.ListN.{get_or-map}
 use Rattle.std.proofs.lemmas.Option.{get_or_from_slice_get, none-some}
+use Rattle.process_network.specs.Network.{Streams}
 use Rattle.process_network.specs.PacketStar.{HubOutlook, fresh_hub, hub_after_take, hub_turn_by}
 use Rattle.process_network.specs.PacketStar.HubOutlook.{HubActs, HubWaits, HubHalts}
 use Rattle.process_network.specs.Star.{Link, after_hub_turn, hub_received, link, links_with, new_link}
 use Rattle.process_network.specs.Star.StarStep.{HubTurn}
 use Rattle.process_network.proofs.PacketCursors.{packet_cursors}
+use Rattle.cosim_model.specs.declared.session.EndFault.{EndFault}
 use Rattle.cosim_model.specs.Packets.{Decoded}
 use Rattle.cosim_model.specs.Parts.{DeviceModel, MasterModel}
 use Rattle.ends_model.specs.declared.ends.Turn.{Turn}

@@ -1,14 +1,16 @@
 -- A world: where its ends are, what they began with, and what its calls promise. `every_schedule` is the theorem
 -- behind.
 use Rattle.std.specs.Prelude.{◌≡◌, ℕ, ◌+◌, ◌≤◌, ◌⊎◌, Bool, true, if◌then◌else◌, List, [], ◌∷◌, ◌++◌, length, map}
-use Rattle.std.specs.Prelude.{Some, None, OnOk, Result, Ok, Err, slice_get}
+use Rattle.std.specs.Prelude.{Option, Some, None, OnOk, Result, Ok, Err, slice_get}
 use Rattle.cos_base.specs.declared.no_memory.NoMemory.{NoMemory}
 use Rattle.process_network.specs.Network.{IsPrefix}
+use Rattle.process_network.specs.PacketStar.{HubEnd, LeafEnd, star_of}
 use Rattle.process_network.specs.Star.{StarStep, hub_received, link, star_after, star_all, star_effective}
 use Rattle.process_network.specs.Star.{star_effective_steps}
 use Rattle.cosim_model.specs.declared.values.Plan.{Plan}
 use Rattle.cosim_model.specs.Parts.{DeviceModel, MasterModel}
 use Rattle.ends_model.specs.declared.ends.Phase.TheVariants.{Done}
+use Rattle.ends_model.specs.DeviceTurn.{DeviceEnd}
 use Rattle.ends_model.specs.World.{Fit, Side, device_start, of_port, start, world}
 use Rattle.every_schedule.specs.Schedules as all
 use Rattle.rp_framing.specs.Framing.{counted}

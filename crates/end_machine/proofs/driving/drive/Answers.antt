@@ -1,4 +1,4 @@
-use Rattle.std.proofs.Common.{Err, Ok, ap, length, map, subst, sym, ◌∙◌}
+use Rattle.std.proofs.Common.{Err, Ok, ap, length, map, subst, sym, ◌∙◌, ◌≡◌}
 use Rattle.std.proofs.lemmas.List.{length-map}
 use Rattle.machine_turns.specs.declared.fault.TurnFault.TheVariants as turn_fault
 use Rattle.end_machine.specs.Driving.{Leaves}

@@ -1,4 +1,4 @@
-use Rattle.std.proofs.Common.{◌<◌, subst, sym}
+use Rattle.std.proofs.Common.{◌<◌, length, subst, sym}
 use Rattle.machine_turns.specs.EndLaws.{waits-clear}
 use Rattle.end_machine.proofs.GoingLaws.{link-fails, link-reads}
 use Rattle.end_machine.proofs.LinkLaws.{counts-rise, counts-same, read-rise, read-same}

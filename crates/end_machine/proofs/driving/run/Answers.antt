@@ -1,6 +1,7 @@
 -- The loop of drive, by the laws of what each turn and each read keep.
-use Rattle.std.proofs.Common.{◌≡◌, ◌∙◌, ap, arith, length, map, refl, subst, sym, Ok, Err}
+use Rattle.std.proofs.Common.{◌<◌, ◌≡◌, ◌∙◌, ap, arith, length, map, refl, subst, sym, List, Ok, Err}
 use Rattle.std.proofs.lemmas.List.{length-map}
+use Rattle.cos_base.specs.Links.{Wire}
 use Rattle.ends_model.specs.declared.ends.Turn.{Turn}
 use Rattle.ends_model.specs.World.{machine_start}
 use Rattle.rp_packet.specs.declared.fault.Cause.{Cause}

@@ -1,4 +1,5 @@
 use Rattle.std.proofs.Common.{◌≡◌, All, List, None, length, map}
+use Rattle.std.specs.Prelude.{Option}
 use Rattle.cos_base.specs.Links.{Wire}
 use Rattle.ends_model.specs.World.{machine_start}
 use Rattle.rp_packet.specs.declared.fault.Cause.{Cause}

@@ -1,4 +1,4 @@
-use Rattle.std.proofs.Common.{refl, ◌∙◌}
+use Rattle.std.proofs.Common.{refl, sym, ap, ◌∙◌}
 use Rattle.world.specs.Stars.{hub_of}
 use Rattle.world.proofs.Advancing.{advanced-ends, advanced-hub, has-room-on, never-faulty-on, stopped-ends, stopped-hub}
 use Rattle.world.proofs.ends.Ends.advance.Goals as goal

@@ -1,4 +1,4 @@
-use Rattle.std.proofs.Common.{sym, ◌∙◌, refl, arith, length}
+use Rattle.std.proofs.Common.{◌<◌, ◌≡◌, ℕ, sym, ◌∙◌, refl, arith, length}
 use Rattle.world.proofs.Quiet.{quiet-by, quiet-idle, reached-within}
 use Rattle.world.proofs.Reaching.{ports-there}
 use Rattle.world.proofs.world.World.is_quiet.Goals as goal

@@ -1,4 +1,4 @@
-use Rattle.std.proofs.Common.{length, ap, ◌∙◌, arith}
+use Rattle.std.proofs.Common.{◌≡◌, length, sym, ap, ◌∙◌, arith}
 use Rattle.world.specs.Worlds.{WorldValue}
 use Rattle.world.proofs.Reaching.{ports-there}
 use Rattle.world.proofs.world.World.ports.Goals as goal

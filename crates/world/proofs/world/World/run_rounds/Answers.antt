@@ -1,7 +1,10 @@
-use Rattle.std.proofs.Common.{◌≤◌, [], ◌++◌, length, sym, ap, ◌∙◌, subst, arith}
-use Rattle.cos_schedules.specs.Courses.{Course, fresh_course}
+use Rattle.std.proofs.Common.{◌≡◌, ◌+◌, ◌<◌, ◌≤◌, List, [], ◌∷◌, ◌++◌, length, map, refl, sym, ap, ◌∙◌, subst, arith, true, false}
+use Rattle.cos_schedules.specs.Courses.{Course, GivesAll, fresh_course}
 use Rattle.cos_schedules.specs.Schedules.{base_length}
+use Rattle.cos_schedules.specs.Stars.{star_step}
 use Rattle.cos_schedules.proofs.Passing.{gives-both}
+use Rattle.process_network.specs.Star.{star_all}
+use Rattle.world.specs.Stars.{star}
 use Rattle.world.proofs.Finishing.{course-keeps-all, measure, measure-falls-all}
 use Rattle.world.proofs.Taking.{take-both, take-none}
 use Rattle.world.proofs.world.World.run_rounds.Goals as goal
