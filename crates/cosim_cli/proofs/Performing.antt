@@ -1,5 +1,5 @@
 -- How a command's promise is made that of the program.
-use Rattle.std.proofs.Common.{ℕ, List, [], refl}
+use Rattle.std.proofs.Common.{ℕ, List, []}
 use Rattle.std.specs.declared.result.Result.{Result}
 use Rattle.std.specs.declared.result.Result.TheVariants.{Ok, Err}
 use Rattle.cos_base.specs.Stores.{Store}
@@ -21,14 +21,18 @@ performs-under Comes f k S T room r under performs = record {
   before = λ s. performs.before (under s);
 }
 
--- A command that asks for no file, and blames none but the files and `out`.
-pub none-asked : {R : Type 0} (a : Asking) (f : Seen Store) (k : Seen (List ℕ)) (r : Result Unit (Stop R)) → AsksNone a
-    → Blames f k r → AsksFor (λ m. []) (λ m. []) a r
-none-asked a f k (Ok u) none blames = none-all a none
-none-asked a f k (Err (Refused r)) none blames = none-all a none
-none-asked a f k (Err (Outside object.Files n)) none blames = none-begins a (λ m. []) (none-all a none)
-none-asked a f k (Err (Outside object.Out n)) none blames = none-all a none
-none-asked a f k (Err (Outside object.Net n)) none blames = blames
-none-asked a f k (Err (Outside (object.Link port) n)) none blames = blames
-none-asked a f k (Err (Outside object.Spawner n)) none blames = blames
-none-asked a f k (Err NoMemory) none blames = none-begins a (λ m. []) (none-all a none)
+-- A command that asks for no file: it blames none but the files and `out`.
+pub none-asked : {R : Type 0} (Comes : Outcome R → Type 0) (f : Seen Store) (k : Seen (List ℕ)) (S : Type 0) (room : ℕ)
+    (a : Asking) (r : Result Unit (Stop R)) → AsksNone a → Performs Comes f k S room r
+    → AsksFor (λ m. []) (λ m. []) a r
+none-asked {R} Comes f k S room a r none performs = by r performs.blames
+  where
+    by : (r : Result Unit (Stop R)) → Blames f k r → AsksFor (λ m. []) (λ m. []) a r
+    by (Ok u) blames = none-all a none
+    by (Err (Refused x)) blames = none-all a none
+    by (Err (Outside object.Files n)) blames = none-begins a (λ m. []) (none-all a none)
+    by (Err (Outside object.Out n)) blames = none-all a none
+    by (Err (Outside object.Net n)) blames = blames
+    by (Err (Outside (object.Link port) n)) blames = blames
+    by (Err (Outside object.Spawner n)) blames = blames
+    by (Err NoMemory) blames = none-begins a (λ m. []) (none-all a none)

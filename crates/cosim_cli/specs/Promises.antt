@@ -36,7 +36,8 @@ use Rattle.cosim_local.specs.Locals.{LocalComes, local_names, result_names}
 use Rattle.cosim_run.specs.Conversations.{RunEnded}
 use Rattle.cosim_run.specs.Runs.{RunView, Runs}
 use Rattle.cosim_words.specs.Words.{Order, Default, Schedule, Steps}
-use Rattle.cosim_words.specs.Words.{Command, DeviceNull, DeviceTimer, DevicePort, Show, Pack, Asm, Dis, Direct, Local, Gen, Help, Run}
+use Rattle.cosim_words.specs.Words.{Command, DeviceNull, DeviceTimer, DevicePort, Show, Pack, Asm, Dis, Direct, Local}
+use Rattle.cosim_words.specs.Words.{Gen, Run, Help}
 use Rattle.cosim_words.specs.Words.{IsInRange, words_of}
 
 -- what is around a call: its objects before and after it, the names that the files were asked for, whether the objects

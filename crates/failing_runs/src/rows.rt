@@ -38,6 +38,7 @@ const SCRIPT: &[u8] = b"write 0 0x4 4 0x5\nread 1 0x0 4\n";
 const ROOM: usize = 1000;
 
 /// What fails in a run, by the numbers of calls, and with which statuses the children end.
+#[derive(Drop)]
 pub struct Row {
     pub name: &'static str,
     pub net: Option<u32>,
@@ -101,7 +102,10 @@ fn statuses(alloc: Global, first: u8, second: u8) -> Result<Numbers, NoMemory>
 fn words(alloc: Global) -> Result<Vec<String>, Stopped> {
     let mut words = Vec::new(alloc);
     for text in ["run", "config", "program"] {
-        words.push(String::from_str(alloc, text)?)?;
+        match words.push(String::from_str(alloc, text)?) {
+            Ok(()) => {}
+            Err(_) => return Err(Stopped::NoMemory),
+        }
     }
     Ok(words)
 }

@@ -1,4 +1,5 @@
 use Rattle.std.proofs.Common.{refl}
+use Rattle.outcomes.specs.Seen.{seen}
 use Rattle.cosim_cli.proofs.Helping.{helps}
 use Rattle.cosim_cli.proofs.Performing.{performs-under, none-asked}
 use Rattle.cosim_cli.proofs.top.perform.Goals as goal
@@ -86,12 +87,13 @@ returns-in-Local g c =
 
 pub returns-in-Gen : goal.returns-in-Gen
 returns-in-Gen g c =
-    let performs = c.run_generated.ensures _ (record { count = refl; same = refl }) in
+    let files = seen g.F.Files.count g.F.Files.told c.args.files.now c.args.files.now in
+    let performs = c.run_generated.ensures files (record { count = refl; same = refl }) in
     rw c.in-Gen.is
     (record {
       result = c.run_generated.result;
       performs = performs-under _ _ _ _ _ _ c.run_generated.result (λ sound. sound.1) performs;
-      asks = none-asked _ _ _ c.run_generated.result refl performs.blames;
+      asks = none-asked _ _ _ _ _ _ c.run_generated.result refl performs;
       status = c.status_of-in-Gen.ensures;
       net = record { count = refl; same = refl };
       children = record { count = refl; same = refl };
