@@ -24,6 +24,18 @@ pub trait Refusal: Drop {
         ensures { result ≡ refused self };
 }
 
+/// The status of how a command ended that refuses nothing.
+pub fn sure_status_of(ended: Result<(), Stop<Infallible>>) -> Status
+    ensures { result ≡ ended_status never_refused ended }
+{
+    match ended {
+        Ok(()) => Status::Done,
+        Err(Stop::Refused(never)) => match never {},
+        Err(Stop::Outside { object, count }) => Status::Outside { object, count },
+        Err(Stop::NoMemory) => Status::NoMemory,
+    }
+}
+
 /// The status of how a command ended.
 pub fn status_of<R: Refusal>(ended: Result<(), Stop<R>>) -> Status
     ensures { result ≡ ended_status R.refused ended }
@@ -143,13 +155,5 @@ impl Refusal for LocalRefusal {
             LocalRefusal::Inputs(refusal) => refusal.status(),
             LocalRefusal::Steps { line } => Status::Input(InputFault::Line { line }),
         }
-    }
-}
-
-impl Refusal for Infallible {
-    ghost refused = { never_refused };
-
-    fn status(self) -> Status {
-        match self {}
     }
 }

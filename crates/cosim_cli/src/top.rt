@@ -9,7 +9,7 @@ ghost use Rattle.cosim_cli.specs.Usage.{Uses, StopsAt};
 ghost use Rattle.cosim_words.specs.Words.{asked, asked_order};
 
 use crate::help::help;
-use crate::refusals::status_of;
+use crate::refusals::{status_of, sure_status_of};
 use cos_base::{Files, Network, Sink};
 use cos_children::Spawner;
 use cosim_assembly::{asm, dis};
@@ -75,7 +75,7 @@ fn perform<F: Files, K: Sink, N: Network, S: Spawner>(
         Command::Local { config, order } => {
             status_of(local(alloc, config, order_of(order), files, out))
         }
-        Command::Gen { number } => status_of(run_generated(alloc, number, out)),
+        Command::Gen { number } => sure_status_of(run_generated(alloc, number, out)),
         Command::Run { config, program } => {
             status_of(run(alloc, config, program, files, out, net, children))
         }

@@ -94,7 +94,7 @@ returns-in-Gen g c =
       result = c.run_generated.result;
       performs = performs-under _ _ _ _ _ _ c.run_generated.result (λ sound. sound.1) performs;
       asks = none-asked _ _ _ _ _ _ c.run_generated.result refl performs;
-      status = c.status_of-in-Gen.ensures;
+      status = c.sure_status_of.ensures;
       net = record { count = refl; same = refl };
       children = record { count = refl; same = refl };
     })
