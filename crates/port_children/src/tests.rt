@@ -1,4 +1,4 @@
-ghost use Rattle.std.specs.Prelude.{◌≡◌, ◌<◌, All, IfOk, length};
+ghost use Rattle.std.specs.Prelude.{◌<◌, All, IfOk};
 
 use crate::{OpenFault, WaitFault, open_links, wait_for_all};
 use cos_base::{NoMemory, Numbers, Octets};
@@ -104,6 +104,14 @@ fn no_child_is_started_where_a_socket_is_not_listened_under(rt: HostRuntime) -> 
     Ok(())
 }
 
+/// Waits for children, of which there are 16 at most.
+fn wait_for(numbers: &[u32], children: &mut MemSpawner) -> Option<Result<(), WaitFault>> {
+    if numbers.len() > 16 {
+        return None;
+    }
+    Some(wait_for_all(numbers, children))
+}
+
 #[test]
 fn children_stay_to_be_waited_for_where_a_link_fails(rt: HostRuntime) -> Result<(), Fail> {
     let alloc = rt.alloc();
@@ -113,8 +121,8 @@ fn children_stay_to_be_waited_for_where_a_link_fails(rt: HostRuntime) -> Result<
     assert_eq!(rt; opened.links, 1);
     assert_eq!(rt; opened.numbers.as_slice(), [0, 1].as_slice());
     assert_eq!(rt;
-        wait_for_all(opened.numbers.as_slice(), &mut children),
-        Ok(())
+        wait_for(opened.numbers.as_slice(), &mut children),
+        Some(Ok(()))
     );
     Ok(())
 }
@@ -137,20 +145,20 @@ fn waited(
     first: u8,
     second: u8,
     failing: &[u32],
-) -> Result<(Result<(), WaitFault>, Result<u8, SpawnFault>), NoMemory> {
+) -> Result<(Option<Result<(), WaitFault>>, Result<u8, SpawnFault>), NoMemory> {
     let statuses = two_statuses(alloc, first, second)?;
     let mut children = MemSpawner::make(alloc, statuses, numbers(alloc, failing)?);
     let opened = open_two(alloc, &[], &mut children)?;
-    let answer = wait_for_all(opened.numbers.as_slice(), &mut children);
+    let answer = wait_for(opened.numbers.as_slice(), &mut children);
     Ok((answer, children.wait(1)))
 }
 
 #[test]
 fn the_first_status_that_is_not_0_is_told(rt: HostRuntime) -> Result<(), Fail> {
     let alloc = rt.alloc();
-    let of_port_1 = Err(WaitFault::Status { port: 1, status: 3 });
+    let of_port_1 = Some(Err(WaitFault::Status { port: 1, status: 3 }));
     assert_eq!(rt; waited(alloc, 0, 3, &[])?.0, of_port_1);
-    let of_port_0 = Err(WaitFault::Status { port: 0, status: 3 });
+    let of_port_0 = Some(Err(WaitFault::Status { port: 0, status: 3 }));
     assert_eq!(rt; waited(alloc, 3, 4, &[])?.0, of_port_0);
     Ok(())
 }
@@ -158,7 +166,7 @@ fn the_first_status_that_is_not_0_is_told(rt: HostRuntime) -> Result<(), Fail> {
 #[test]
 fn the_others_are_waited_for_after_a_wait_that_fails(rt: HostRuntime) -> Result<(), Fail> {
     let answers = waited(rt.alloc(), 0, 3, &[2])?;
-    assert_eq!(rt; answers.0, Err(WaitFault::Spawner { count: 1 }));
+    assert_eq!(rt; answers.0, Some(Err(WaitFault::Spawner { count: 1 })));
     assert_eq!(rt; answers.1, Err(SpawnFault::Failed));
     Ok(())
 }
