@@ -47,9 +47,13 @@ def with_sockets(text):
     return front + "".join(f'[[port]]\nsocket = "p{number}"\n{port}' for number, port in enumerate(ports))
 
 
+def written_in(folder, files):
+    written(folder, {name: content.encode() if isinstance(content, str) else content for name, content in files.items()})
+
+
 def folder_of(files):
     folder = tempfile.mkdtemp(prefix="run")
-    written(folder, {**files, "c": with_sockets(files["c"])})
+    written_in(folder, {**files, "c": with_sockets(files["c"])})
     return folder
 
 
@@ -207,7 +211,7 @@ def refusals():
 def no_folder():
     row = "a socket whose folder isn't there"
     folder = tempfile.mkdtemp(prefix="run")
-    written(folder, {**TWO, "c": with_sockets(TWO["c"]).replace('"p1"', '"absent/p1"')})
+    written_in(folder, {**TWO, "c": with_sockets(TWO["c"]).replace('"p1"', '"absent/p1"')})
     done = run(["run", "c", PROGRAM], folder)
     check(row, "the end", (done.returncode, done.stdout, done.stderr), (5, b"", b"cosim: outside: net 1\n"))
     check_clean(row, folder)

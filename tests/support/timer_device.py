@@ -50,7 +50,7 @@ class Timer:
 
     def accessed(self, came):
         """The code and the value of an access."""
-        self.advance(came.at)
+        self.advance(came.time)
         whole = came.size == 4 and all(byte == 255 for byte in came.enables)
         if not whole:
             return 1, 0
@@ -69,7 +69,7 @@ class Timer:
             data = b""
         else:
             data = struct.pack("<I", value) if code == 0 else bytes(came.size)
-        self.send(access(received.command, received.number, ANSWER, came.at, came.addr, came.size, data, attributes=coded(code, came.attributes)))
+        self.send(access(received.command, received.number, ANSWER, came.time, came.addr, came.size, data, attributes=coded(code, came.attributes)))
 
     def set(self, came):
         value = struct.unpack("<I", came.data)[0]
