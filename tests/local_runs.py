@@ -195,8 +195,29 @@ def try_example(name, schedules):
         try_orders(name, folder, schedules, ["m\nm\n"])
 
 
+def failing():
+    """A file that isn't there, one whose folder takes no file, and an output that is full: a fault of the outside, and nothing is printed."""
+    lacking = {**UART}
+    del lacking["i"]
+    unwritten = {**DISK, "c": DISK["c"].replace('disk = "d"', 'disk = "d"\nresult = "absent/r"')}
+    for row, files, line in [
+        ("no configuration", {}, b"cosim: outside: files 1\n"),
+        ("no image", lacking, b"cosim: outside: files 1\n"),
+        ("a result in no folder", unwritten, b"cosim: outside: files 1\n"),
+    ]:
+        with tempfile.TemporaryDirectory() as folder:
+            written(folder, {name: content.encode() if isinstance(content, str) else content for name, content in files.items()})
+            done = run(["local", "c"], folder)
+            check(row, "the end", (done.returncode, done.stdout, done.stderr), (5, b"", line))
+    with tempfile.TemporaryDirectory() as folder, open("/dev/full", "wb") as full:
+        written(folder, {name: content.encode() if isinstance(content, str) else content for name, content in UART.items()})
+        done = run(["local", "c"], folder, out=full)
+        check("a full device", "the end", (done.returncode, done.stderr), (5, b"cosim: outside: out 1\n"))
+
+
 def main():
     built()
+    failing()
     for name, (files, wanted) in WORKED.items():
         try_files(name, files, name, wanted)
     for seed in range(DRAWN):
